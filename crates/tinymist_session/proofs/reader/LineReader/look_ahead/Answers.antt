@@ -1,0 +1,14 @@
+use Rattle.std.proofs.Common.{◌≡◌, ◌-◌, ◌<◌, ◌≤◌, length, take, drop, refl, arith, length-take, length-drop}
+use Rattle.tinymist_session.specs.LineReader.{held_of}
+use Rattle.tinymist_session.proofs.Known.{fills_finds, held_none}
+use Rattle.tinymist_session.proofs.reader.LineReader.look_ahead.Goals as goal
+
+pub returns-then-self-clause-bytes : goal.returns-then-self-clause-bytes
+returns-then-self-clause-bytes g c =
+    let r = c.args.self.now in
+    (held_of r, g.S.LineSource.left c.args.source.now, refl, omega (arith, length-take (r.to - r.from) (drop r.from r.piece.items), length-drop r.from r.piece.items))
+
+pub returns-clause-bytes : goal.returns-clause-bytes
+returns-clause-bytes g c =
+    let r = c.args.self.now in
+    fills_finds (held_of r) (held_of c.fill.new.self) (g.S.LineSource.left c.args.source.now) (g.S.LineSource.left c.fill.new.source) c.fill.result (held_none r.piece.items r.from r.to (omega arith)) c.fill.ensures.bytes

@@ -1,0 +1,34 @@
+-- What one write and one flush of a sink do.
+use Rattle.std.specs.Prelude.{◌≡◌, ℕ, ◌==◌, ◌<◌, ◌≤◌, if◌then◌else◌, Bool, true, false, List, length, take, Option, ⊤}
+use Rattle.std.specs.Io.KnownBytes.{append_known}
+use Rattle.tinymist_session.specs.declared.sink.WriteStep.{WriteStep}
+use Rattle.tinymist_session.specs.declared.sink.WriteStep.TheVariants as wrote
+use Rattle.tinymist_session.specs.declared.sink.FlushStep.{FlushStep}
+use Rattle.tinymist_session.specs.declared.sink.FlushStep.TheVariants as flush
+
+-- a write takes the front of the piece, or nothing
+abbrev pub Writes : Option (List ℕ) → Option (List ℕ) → WriteStep → List ℕ → Type 0
+Writes old new (wrote.Took n) piece = (n ≤ length piece) × (new ≡ append_known old (take n piece))
+Writes old new wrote.Failed piece = new ≡ old
+
+abbrev pub IsFailedWrite : WriteStep → Type 0
+IsFailedWrite (wrote.Took n) = ⊥
+IsFailedWrite wrote.Failed = ⊤
+
+-- a dry take: nothing of a piece that isn't empty
+abbrev pub IsDry : WriteStep → List ℕ → Type 0
+IsDry (wrote.Took n) piece = (n ≡ 0) × (0 < length piece)
+IsDry wrote.Failed piece = ⊥
+
+-- a write of at least one byte leaves the sink unflushed
+abbrev pub flushed_by_write : Bool → WriteStep → Bool
+flushed_by_write old (wrote.Took n) = if n == 0 then old else false
+flushed_by_write old wrote.Failed = old
+
+abbrev pub flushed_by : Bool → FlushStep → Bool
+flushed_by old flush.Done = true
+flushed_by old flush.Failed = old
+
+abbrev pub IsFailedFlush : FlushStep → Type 0
+IsFailedFlush flush.Done = ⊥
+IsFailedFlush flush.Failed = ⊤

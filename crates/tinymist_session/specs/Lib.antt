@@ -1,0 +1,14 @@
+pub mod LineSource
+pub mod ByteSink
+pub mod Memory
+pub mod Lf
+pub mod LineReader
+pub mod Command
+pub mod Grammar
+pub mod Reply
+pub mod Machine
+pub mod Said
+pub mod Shown
+pub mod Session
+pub mod Run
+pub mod Turns

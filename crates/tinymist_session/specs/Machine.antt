@@ -1,0 +1,79 @@
+-- The plain machine: its state, and a step for each command.
+use Rattle.std.specs.Prelude.{ℕ, ◌+◌, ◌-◌, ◌==◌, ◌&&◌, not, true, if◌then◌else◌, List, [], ◌∷◌, ◌++◌, length, slice_get, slice_set, Option, Some, None}
+use Rattle.std.specs.List.{list_any}
+use Rattle.std.specs.FinMap as map
+use Rattle.ty_model.specs.Values.{Id, Answer}
+use Rattle.ty_model.specs.Places.{id_by_parent, detached_entry, memory_main_entry}
+use Rattle.ty_model.specs.Disk.{Told}
+use Rattle.ty_model.specs.Version.{first_version, same_id}
+use Rattle.ty_model.specs.Batch as batch
+use Rattle.ty_model.specs.LookUp.{look}
+use Rattle.ty_model.specs.Space.{Space, after_commit, snapshot_of}
+use Rattle.tinymist_session.specs.Command.{Command, MapPath, Snapshot, Read, IdWord, PathWord}
+use Rattle.tinymist_session.specs.Reply.{Reply, AtRevision, ViewNumber, BadView, BadId, reply_to}
+
+-- the live space, the views with view 1 first, and what is drawn next
+pub record State : Type 0 where
+  pub live : Space
+  pub views : List Space
+  pub next_tag : ℕ
+  pub next_space : ℕ
+  pub tagged : List Id
+
+-- what a step leaves, and what it replies
+pub record Stepped : Type 0 where
+  pub state : State
+  pub reply : Reply
+
+-- the state at the start: one space with one version, and nothing in it
+abbrev pub opening : State
+opening = record {
+  live = record { number = 1; now = first_version 1 map.empty; past = []; entry = record { root = None; main = None }; universe = 1; asked = []; compiling = true };
+  views = [];
+  next_tag = 3;
+  next_space = 2;
+  tagged = detached_entry ∷ memory_main_entry ∷ [];
+}
+
+-- the id that a word names
+abbrev pub id_for : IdWord → Option Id
+id_for (PathWord path) = id_by_parent path
+
+-- view k, where 0 is none
+abbrev pub view_at : List Space → ℕ → Option Space
+view_at views k = if k == 0 then None else slice_get views (k - 1)
+
+-- the id is asked for, where the space is compiling and it wasn't before
+abbrev pub with_asked : Id → Space → Space
+with_asked id s = if s.compiling && not (list_any (same_id id) s.asked) then record s { asked = s.asked ++ id ∷ [] } else s
+
+-- an edit commits a batch of one item on its target
+abbrev pub map_step : State → List ℕ → Answer → Stepped
+map_step s path answer =
+    let live = after_commit s.live (batch.MapPath path answer ∷ []) in
+    record { state = record s { live = live }; reply = AtRevision live.now.revision }
+
+-- a snapshot copies the live space under a fresh number
+abbrev pub snapshot_step : State → Stepped
+snapshot_step s = record {
+  state = record s { views = s.views ++ snapshot_of s.next_space s.live ∷ []; next_space = s.next_space + 1 };
+  reply = ViewNumber (length s.views + 1);
+}
+
+-- a read looks the id up in the last version of the view
+abbrev pub read_in : State → Told → ℕ → Space → Option Id → Stepped
+read_in s disk k view None = record { state = s; reply = BadId }
+read_in s disk k view (Some id) = record {
+  state = record s { views = slice_set s.views (k - 1) (with_asked id view) };
+  reply = reply_to (look view.now disk id);
+}
+
+abbrev pub read_step : State → Told → ℕ → IdWord → Option Space → Stepped
+read_step s disk k word None = record { state = s; reply = BadView }
+read_step s disk k word (Some view) = read_in s disk k view (id_for word)
+
+-- a step of a state over a disk
+abbrev pub step : State → Told → Command → Stepped
+step s disk (MapPath target path answer) = map_step s path answer
+step s disk Snapshot = snapshot_step s
+step s disk (Read k word) = read_step s disk k word (view_at s.views k)

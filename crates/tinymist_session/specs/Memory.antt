@@ -1,0 +1,54 @@
+-- A source and a sink in memory: what they hold, and what their next call does.
+use Rattle.std.specs.Prelude.{ℕ, ◌+◌, ◌-◌, ◌^◌, ◌==◌, if◌then◌else◌, min, nat_lt, Bool, false, List, [], ◌∷◌, length, ⊤, ◌≡◌}
+use Rattle.std.specs.List.{list_any, list_all}
+use Rattle.tinymist_session.specs.declared.source.ReadStep.{ReadStep}
+use Rattle.tinymist_session.specs.declared.source.ReadStep.TheVariants.{Got, End, Failed}
+use Rattle.tinymist_session.specs.declared.sink.WriteStep.{WriteStep}
+use Rattle.tinymist_session.specs.declared.sink.WriteStep.TheVariants as wrote
+
+-- a count after one more, which stands still at its last value
+abbrev pub counted : ℕ → ℕ
+counted count = min (count + 1) (2 ^ 64 - 1)
+
+-- the call after so many fails: its number, from 1 on, is listed
+abbrev pub is_listed : List ℕ → ℕ → Bool
+is_listed fails calls = list_any (λ n. n == counted calls) fails
+
+abbrev pub are_positive : List ℕ → Bool
+are_positive numbers = list_all (λ n. nat_lt 0 n) numbers
+
+-- the least of the next number and this one
+abbrev pub at_most_next : List ℕ → ℕ → ℕ
+at_most_next [] most = most
+at_most_next (next ∷ later) most = min most next
+
+-- the bytes that are left, the sizes of the next pieces, the calls that fail, and how many calls and faults there were
+pub record SourceHolds : Type 0 where
+  pub left : List ℕ
+  pub sizes : List ℕ
+  pub fails : List ℕ
+  pub calls : ℕ
+  pub faults : ℕ
+
+abbrev pub read_by : List ℕ → List ℕ → ℕ → ReadStep
+read_by [] sizes room = End
+read_by (b ∷ bs) sizes room = Got (at_most_next sizes (min room (length (b ∷ bs))))
+
+-- what the next read of a buffer of this length gives
+abbrev pub next_read : SourceHolds → ℕ → ReadStep
+next_read s room = if is_listed s.fails s.calls then Failed else read_by s.left s.sizes room
+
+-- the bytes that were taken, the most that the next writes take, the calls that fail, and the counts
+pub record SinkHolds : Type 0 where
+  pub taken : List ℕ
+  pub most : List ℕ
+  pub fails : List ℕ
+  pub calls : ℕ
+  pub faults : ℕ
+  pub dry : ℕ
+  pub flushed : Bool
+
+-- a write takes as much as is let, and want of memory is a fault
+abbrev pub WritesNext : SinkHolds → WriteStep → List ℕ → Type 0
+WritesNext s (wrote.Took n) piece = (is_listed s.fails s.calls ≡ false) × (n ≡ at_most_next s.most (length piece))
+WritesNext s wrote.Failed piece = ⊤

@@ -1,0 +1,41 @@
+-- What the code keeps of a state: for each space its number and its last version, and the next number of a space.
+use Rattle.std.specs.Prelude.{◌≡◌, ℕ, ◌-◌, ◌==◌, if◌then◌else◌, List, map, slice_get, Option, Some, None}
+use Rattle.std.specs.FinMap as finmap
+use Rattle.ty_model.specs.Disk.{Told}
+use Rattle.ty_model.specs.Values.{Id}
+use Rattle.ty_model.specs.Places.{Resolver}
+use Rattle.ty_model.specs.Version.{Version}
+use Rattle.ty_model.specs.LookUp.{look}
+use Rattle.ty_model.specs.Held.{Kept, version_of}
+use Rattle.ty_model.specs.Space.{Space}
+use Rattle.ty_model.specs.Counters.{Counters}
+use Rattle.tinymist_vfs.specs.declared.resolver.MockRootResolver.{MockRootResolver}
+use Rattle.tinymist_session.specs.Machine.{State}
+use Rattle.tinymist_session.specs.Reply.{Reply, BadView, BadId, reply_to}
+
+-- the packages of the session's resolver: none
+abbrev pub known : MockRootResolver → Resolver
+known resolver = finmap.empty
+
+-- the number and the version that a value shows, and those of a space
+abbrev pub shown : Kept MockRootResolver → ℕ × Version
+shown k = (k.held.space, version_of known k)
+
+abbrev pub space_shown : Space → ℕ × Version
+space_shown s = (s.number, s.now)
+
+-- the code shows these parts of the state
+pub record IsShown (live : Kept MockRootResolver) (views : List (Kept MockRootResolver)) (tags : Counters) (s : State) : Type 0 where
+  pub live_is : shown live ≡ space_shown s.live
+  pub views_are : map shown views ≡ map space_shown s.views
+  pub next : tags.next_space ≡ s.next_space
+
+-- ---- a read of a view
+
+abbrev pub kept_at : List (Kept MockRootResolver) → ℕ → Option (Kept MockRootResolver)
+kept_at views k = if k == 0 then None else slice_get views (k - 1)
+
+abbrev pub read_reply : Option (Kept MockRootResolver) → Told → Option Id → Reply
+read_reply None disk id = BadView
+read_reply (Some view) disk None = BadId
+read_reply (Some view) disk (Some id) = reply_to (look (shown view).1 disk id)

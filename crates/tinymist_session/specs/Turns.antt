@@ -1,0 +1,91 @@
+-- One line of a session, and the lines that are left.
+use Rattle.std.specs.Prelude.{◌≡◌, ℕ, ◌+◌, ◌-◌, Bool, true, false, List, ◌++◌, length, take, Option, Some, None, IsSome, Result, Ok, Err, ⊤}
+use Rattle.std.specs.Io.KnownBytes.{append_known}
+use Rattle.ty_model.specs.Disk.{Told}
+use Rattle.ty_model.specs.Held.{Kept}
+use Rattle.ty_model.specs.Counters.{Counters}
+use Rattle.tinymist_vfs.specs.declared.resolver.MockRootResolver.{MockRootResolver}
+use Rattle.tinymist_session.specs.Command.{Command}
+use Rattle.tinymist_session.specs.Reply.{reply_line}
+use Rattle.tinymist_session.specs.Machine.{State, Stepped, opening}
+use Rattle.tinymist_session.specs.Session as session
+use Rattle.tinymist_session.specs.Session.{End, Whole, Bad, Over, lines_of, good_commands, end_with, replies_from}
+use Rattle.tinymist_session.specs.declared.session.Limits.{Limits}
+use Rattle.tinymist_session.specs.declared.session.SessionFault.{SessionFault}
+use Rattle.tinymist_session.specs.declared.session.SessionFault.TheVariants.{ReadFault, WriteFault, BadLine, Full, OutOfMemory}
+use Rattle.tinymist_session.specs.Run.{EndFits, Written}
+use Rattle.tinymist_session.specs.Shown.{IsShown}
+
+-- some front of the piece was taken
+abbrev pub TakesFront : Option (List ℕ) → Option (List ℕ) → List ℕ → Type 0
+TakesFront old new piece = (n : ℕ) × (new ≡ append_known old (take n piece))
+
+-- an answer to the line that reads as this command, if any
+abbrev pub TurnReads : Option Command → ℕ → Result (Unit {0}) SessionFault → Type 0
+TurnReads command n (Ok done) = IsSome command
+TurnReads command n (Err (BadLine m)) = (m ≡ n) × (command ≡ None)
+TurnReads command n (Err WriteFault) = IsSome command
+TurnReads command n (Err OutOfMemory) = ⊤
+TurnReads command n (Err ReadFault) = ⊥
+TurnReads command n (Err Full) = ⊥
+
+abbrev pub TurnSays : Stepped → Option (List ℕ) → Option (List ℕ) → Kept MockRootResolver → List (Kept MockRootResolver) → Counters → Result (Unit {0}) SessionFault → Type 0
+TurnSays stepped old new live views tags (Ok done) = IsShown live views tags stepped.state × (new ≡ append_known old (reply_line stepped.reply))
+TurnSays stepped old new live views tags (Err fault) = TakesFront old new (reply_line stepped.reply)
+
+-- ---- what is left of an input, where n good lines stood before it
+
+abbrev pub limits_of : Limits → session.Limits
+limits_of l = record { max_line = l.max_line; max_lines = l.max_lines }
+
+-- the commands of lines after n others
+abbrev pub commands_after : session.Limits → ℕ → List (List ℕ) → List Command
+commands_after limits n lines = good_commands limits (take (limits.max_lines - n) lines)
+
+-- the end of lines after n good ones
+abbrev pub end_after : session.Limits → ℕ → List (List ℕ) → End
+end_after limits n lines = end_with (n + length lines) (n + length (take (limits.max_lines - n) lines)) (n + length (commands_after limits n lines))
+
+abbrev pub ends : session.Limits → ℕ → List ℕ → End
+ends limits n rest = end_after limits n (lines_of rest)
+
+abbrev pub replies : session.Limits → Told → State → ℕ → List ℕ → List ℕ
+replies limits told s n rest = replies_from told s (commands_after limits n (lines_of rest))
+
+-- ---- one line of a source that tells
+
+abbrev pub PassEnds : session.Limits → ℕ → List ℕ → Option (List ℕ) → Result Bool SessionFault → Type 0
+PassEnds limits n rest left (Ok true) = (next : List ℕ) × (left ≡ Some next) × (ends limits n rest ≡ ends limits (n + 1) next)
+PassEnds limits n rest left (Ok false) = ends limits n rest ≡ Whole
+PassEnds limits n rest left (Err fault) = EndFits (ends limits n rest) (Err fault)
+
+-- a line was answered, and the rest goes on from there
+pub record Passed (limits : session.Limits) (told : Told) (s : State) (n : ℕ) (rest : List ℕ) (left old new : Option (List ℕ)) (live : Kept MockRootResolver) (views : List (Kept MockRootResolver)) (tags : Counters) : Type 0 where
+  pub next : List ℕ
+  pub state : State
+  pub piece : List ℕ
+  pub left_is : left ≡ Some next
+  pub shown : IsShown live views tags state
+  pub taken : new ≡ append_known old piece
+  pub goes_on : replies limits told s n rest ≡ piece ++ replies limits told state (n + 1) next
+
+abbrev pub PassSays : session.Limits → Told → State → ℕ → List ℕ → Option (List ℕ) → Option (List ℕ) → Option (List ℕ) → Kept MockRootResolver → List (Kept MockRootResolver) → Counters → Result Bool SessionFault → Type 0
+PassSays limits told s n rest left old new live views tags (Ok true) = Passed limits told s n rest left old new live views tags
+PassSays limits told s n rest left old new live views tags (Ok false) = new ≡ append_known old (replies limits told s n rest)
+PassSays limits told s n rest left old new live views tags (Err fault) = Written (replies limits told s n rest) old new (Err fault)
+
+-- n lines of the input were answered, and the rest goes on from there
+pub record Ahead (limits : session.Limits) (input : List ℕ) (n : ℕ) (left : Option (List ℕ)) : Type 0 where
+  pub rest : List ℕ
+  pub left_is : left ≡ Some rest
+  pub same_end : ends limits 0 input ≡ ends limits n rest
+
+pub record Pending (limits : session.Limits) (told : Told) (input : List ℕ) (n : ℕ) (left : Option (List ℕ)) (disk : Option Told) (old new : Option (List ℕ)) (live : Kept MockRootResolver) (views : List (Kept MockRootResolver)) (tags : Counters) : Type 0 where
+  pub rest : List ℕ
+  pub state : State
+  pub done : List ℕ
+  pub left_is : left ≡ Some rest
+  pub disk_is : disk ≡ Some told
+  pub shown : IsShown live views tags state
+  pub taken : new ≡ append_known old done
+  pub goes_on : replies limits told opening 0 input ≡ done ++ replies limits told state n rest

@@ -1,0 +1,23 @@
+//! A session over a stream of command lines: its grammar, its machine, its loop, and the program's top call.
+#![tactic(auto)]
+
+mod command;
+mod machine;
+mod memory;
+mod program;
+mod reader;
+mod reply;
+mod session;
+mod sink;
+mod source;
+mod system;
+#[cfg(test)]
+mod tests;
+mod words;
+
+pub use memory::{MemorySink, MemorySource};
+pub use program::{BAD_WORDS, DEFAULT_LIMITS, OUT_OF_MEMORY, run_program};
+pub use session::{Limits, SessionFault, run_session};
+pub use sink::{ByteSink, FlushStep, WriteStep};
+pub use source::{LineSource, ReadStep};
+pub use system::{PIECE, StdSink, StdinSource};

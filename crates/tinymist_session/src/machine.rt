@@ -1,0 +1,213 @@
+//! The machine that answers commands: the live state, and the views taken of it.
+ghost use Rattle.std.specs.Prelude.{◌≡◌, ◌+◌, ◌-◌, ◌^◌, ◌<◌, ◌≤◌, ◌++◌, ◌∷◌, [], length, map, Option, IfOk, OnOk, OnErr, Some, Err};
+ghost use Rattle.std.specs.Option.{option_map, option_copied};
+ghost use Rattle.std.specs.String.{string_bytes};
+ghost use Rattle.ty_model.specs.Values.{Content};
+ghost use Rattle.ty_model.specs.Batch.{MapPath};
+ghost use Rattle.ty_model.specs.Paths.{clean};
+ghost use Rattle.ty_model.specs.Places.{id_by_parent};
+ghost use Rattle.ty_model.specs.LookUp.{look, decision};
+ghost use Rattle.ty_model.specs.Disk.{Told, IsFixed};
+ghost use Rattle.tinymist_vfs.specs.Commits.{committed};
+ghost use Rattle.tinymist_vfs.specs.Reading.{ReadsAsTold};
+ghost use Rattle.tinymist_session.specs.Machine as plain;
+ghost use Rattle.tinymist_session.specs.Reply.{reply_to};
+ghost use Rattle.tinymist_session.specs.Said.{reply_of, command_of};
+ghost use Rattle.tinymist_session.specs.Shown.{IsShown, shown, kept_at, read_reply};
+
+use crate::command::Command;
+use crate::reply::Reply;
+use crate::words::CleanPath;
+use std::alloc::Global;
+use std::marker::Brand;
+use std::sync::ledger::{Blank, Ledger};
+use tinymist_vfs::{MockRootResolver, ReviseFault, Vfs, WorkspaceResolver};
+use ty_cells::{FileSnapshot, OwnCells, PathAccessModel};
+use ty_path::OutOfMemory;
+use ty_persist::Steps;
+use ty_syntax::{Bytes, FileFault, FileId, TagFault, Tags};
+
+/// The live state, and the views with view 1 first.
+#[derive(Drop)]
+pub(crate) struct Machine {
+    alloc: Global,
+    tags: Tags,
+    live: Vfs<MockRootResolver>,
+    views: Vec<Vfs<MockRootResolver>>,
+}
+
+impl Machine {
+    /// The state at the start: nothing in it, and no view.
+    pub(crate) fn new(alloc: Global) -> Result<Machine, OutOfMemory>
+        ensures shown { IfOk result (λ m. IsShown m.live m.views.items m.tags plain.opening) }
+        ensures revision { IfOk result (λ m. m.live.held.revision ≡ 2) }
+        ensures space { IfOk result (λ m. m.tags.next_space ≡ 2) }
+    {
+        let mut tags = Tags::new();
+        match Vfs::new(alloc, MockRootResolver, &mut tags) {
+            Ok(live) => Ok(Machine {
+                alloc,
+                tags,
+                live,
+                views: Vec::new(alloc),
+            }),
+            Err(TagFault::Full) => unreachable!(),
+            Err(TagFault::OutOfMemory) => Err(OutOfMemory),
+        }
+    }
+
+    /// Answers a command.
+    pub(crate) fn step<M: PathAccessModel>(
+        &mut self,
+        disk: &mut M,
+        command: Command,
+    ) -> Result<Reply, OutOfMemory>
+        requires revision { self.old.live.held.revision < 2 ^ 64 - 1 }
+        requires space { self.old.tags.next_space < 2 ^ 64 - 1 }
+        ensures reply { (told : Told) (s : plain.State) → M.told disk.old ≡ Some told → IsShown self.old.live self.old.views.items self.old.tags s → IfOk result (λ r. reply_of r ≡ (plain.step s told (command_of command)).reply) }
+        ensures state { (told : Told) (s : plain.State) → M.told disk.old ≡ Some told → IsShown self.old.live self.old.views.items self.old.tags s → OnOk result (IsShown self.new.live self.new.views.items self.new.tags (plain.step s told (command_of command)).state) }
+        ensures left { (told : Told) → M.told disk.old ≡ Some told → IsFixed told → M.told disk.new ≡ Some told }
+        ensures revision { self.new.live.held.revision ≤ self.old.live.held.revision + 1 }
+        ensures space { self.new.tags.next_space ≤ self.old.tags.next_space + 1 }
+    {
+        match command {
+            Command::Map(path, bytes) => {
+                let revision = self.map_file(&path, bytes)?;
+                Ok(Reply::AtRevision(revision))
+            }
+            Command::Snapshot => {
+                let number = self.take_snapshot()?;
+                Ok(Reply::ViewNumber(number))
+            }
+            Command::Read(view, path) => self.read_view(disk, view, &path),
+        }
+    }
+
+    /// Maps a file of the live state, and answers the revision.
+    fn map_file(&mut self, path: &CleanPath, bytes: Vec<u8>) -> Result<u64, OutOfMemory>
+        requires { self.old.live.held.revision < 2 ^ 64 - 1 }
+        ensures rest { (self.new.views ≡ self.old.views) × (self.new.tags ≡ self.old.tags) }
+        ensures ok { IfOk result (λ n. (self.new.live ≡ committed self.old.live (MapPath (string_bytes path.now.text) (Content bytes.items) ∷ [])) × (n ≡ self.new.live.held.revision)) }
+        ensures err { OnErr result (self.new.live ≡ self.old.live) }
+        ensures revision { self.new.live.held.revision ≤ self.old.live.held.revision + 1 }
+    {
+        let snap = FileSnapshot::from_bytes(Bytes::new(self.alloc, bytes)?);
+        match map_one(&mut self.live, path.text.as_str(), snap) {
+            Ok(revision) => Ok(revision),
+            Err(ReviseFault::Full) => unreachable!(),
+            Err(ReviseFault::OutOfMemory) => Err(OutOfMemory),
+        }
+    }
+
+    /// Takes a snapshot of the live state, and answers its number.
+    fn take_snapshot(&mut self) -> Result<usize, OutOfMemory>
+        requires { self.old.tags.next_space < 2 ^ 64 - 1 }
+        ensures live { self.new.live ≡ self.old.live }
+        ensures space { self.new.tags.next_space ≤ self.old.tags.next_space + 1 }
+        ensures ok { IfOk result (λ n. (map shown self.new.views.items ≡ map shown self.old.views.items ++ (self.old.tags.next_space, (shown self.old.live).1) ∷ [])
+            × (self.new.tags.next_space ≡ self.old.tags.next_space + 1) × (n ≡ length self.new.views.items)) }
+    {
+        match snapshot_of(&self.live, &mut self.tags) {
+            Ok(view) => {
+                self.views.push(view)?;
+                Ok(self.views.len())
+            }
+            Err(TagFault::Full) => unreachable!(),
+            Err(TagFault::OutOfMemory) => Err(OutOfMemory),
+        }
+    }
+
+    /// Reads a file in a view.
+    fn read_view<M: PathAccessModel>(
+        &self,
+        disk: &mut M,
+        view: u64,
+        path: &CleanPath,
+    ) -> Result<Reply, OutOfMemory>
+        ensures reply { (told : Told) → M.told disk.old ≡ Some told → IfOk result (λ r. reply_of r ≡ read_reply (kept_at self.now.views.items view) told (id_by_parent (string_bytes path.now.text))) }
+        ensures left { (told : Told) → M.told disk.old ≡ Some told → IsFixed told → M.told disk.new ≡ Some told }
+    {
+        let Some(vfs) = view_of(&self.views, view) else {
+            return Ok(Reply::BadView);
+        };
+        let Some(id) = WorkspaceResolver::file_with_parent_root(self.alloc, path.text.as_str())?
+        else {
+            return Ok(Reply::BadId);
+        };
+        read_of(vfs, disk, &id)
+    }
+}
+
+/// Maps one file in a batch of its own.
+fn map_one(
+    vfs: &mut Vfs<MockRootResolver>,
+    path: &str,
+    snap: FileSnapshot,
+) -> Result<u64, ReviseFault>
+    ensures ok { IfOk result (λ n. (vfs.new ≡ committed vfs.old (MapPath (clean path.now) snap ∷ [])) × (n ≡ vfs.new.held.revision)) }
+    ensures err { OnErr result (vfs.new ≡ vfs.old) }
+    ensures full { result ≡ Err ReviseFault.Full → vfs.old.held.revision ≡ 2 ^ 64 - 1 }
+{
+    let mut batch = vfs.revise()?;
+    batch.map_shadow(path, snap)?;
+    batch.finish()
+}
+
+/// A copy under a fresh space number.
+fn snapshot_of(
+    live: &Vfs<MockRootResolver>,
+    tags: &mut Tags,
+) -> Result<Vfs<MockRootResolver>, TagFault>
+    ensures ok { IfOk result (λ v. shown v ≡ (tags.old.next_space, (shown live.now).1)) }
+    ensures tags { OnOk result (tags.new.next_space ≡ tags.old.next_space + 1) }
+    ensures err { OnErr result (tags.new ≡ tags.old) }
+    ensures full { result ≡ Err TagFault.Full → tags.old.next_space ≡ 2 ^ 64 - 1 }
+{
+    snapshot_counted::<Brand>(live, tags, Blank::new(1))
+}
+
+/// The same, with a count of steps that nobody reads.
+fn snapshot_counted<L: Ledger>(
+    live: &Vfs<MockRootResolver>,
+    tags: &mut Tags,
+    blank: Blank,
+) -> Result<Vfs<MockRootResolver>, TagFault>
+    requires name { blank.name ≡ L.name }
+    requires parts { blank.parts ≡ L.parts }
+    requires some { 0 < L.parts }
+    ensures ok { IfOk result (λ v. shown v ≡ (tags.old.next_space, (shown live.now).1)) }
+    ensures tags { OnOk result (tags.new.next_space ≡ tags.old.next_space + 1) }
+    ensures err { OnErr result (tags.new ≡ tags.old) }
+    ensures full { result ≡ Err TagFault.Full → tags.old.next_space ≡ 2 ^ 64 - 1 }
+{
+    let mut steps: Steps<L> = Steps::new(blank);
+    live.snapshot(tags, &mut steps)
+}
+
+/// View k, where 0 is none.
+fn view_of(views: &[Vfs<MockRootResolver>], view: u64) -> Option<&Vfs<MockRootResolver>>
+    ensures { option_copied result ≡ kept_at views.now view }
+{
+    if view == 0 {
+        return None;
+    }
+    views.get((view - 1) as usize)
+}
+
+/// Reads an id in a version, over the disk.
+#[tactic(auto, using(crate::proofs::Fixed::reads_fixed))]
+fn read_of<M: PathAccessModel>(
+    vfs: &Vfs<MockRootResolver>,
+    disk: &mut M,
+    id: &FileId,
+) -> Result<Reply, OutOfMemory>
+    ensures reply { (told : Told) → M.told disk.old ≡ Some told → IfOk result (λ r. reply_of r ≡ reply_to (look (shown vfs.now).1 told id.now)) }
+    ensures left { (told : Told) → M.told disk.old ≡ Some told → IsFixed told → M.told disk.new ≡ Some told }
+{
+    let mut cells = OwnCells::new(disk);
+    match vfs.read(&mut cells, id) {
+        Ok(bytes) => Ok(Reply::Contents(bytes)),
+        Err(FileFault::File(error)) => Ok(Reply::Fails(error)),
+        Err(FileFault::OutOfMemory) => Err(OutOfMemory),
+    }
+}

@@ -1,0 +1,289 @@
+//! A session: its lines, one after another, and what it answers.
+ghost use Rattle.std.specs.Prelude.{◌≡◌, ◌⊎◌, ◌+◌, ◌^◌, ◌<◌, ◌≤◌, List, ℕ, Some, None, [], Ok, Err, true, false, OnOk, IfOk, IsErrOf, IsTrue};
+ghost use Rattle.std.specs.Io.KnownBytes.{IsAtEnd, append_known};
+ghost use Rattle.ty_model.specs.Faults.{Rose};
+ghost use Rattle.ty_model.specs.Disk.{Told, IsFixed};
+ghost use Rattle.tinymist_session.specs.LineSource.{HasCause};
+ghost use Rattle.tinymist_session.specs.LineReader.{ahead, held_of, line_of};
+ghost use Rattle.tinymist_session.specs.Command.{Command};
+ghost use Rattle.tinymist_session.specs.Grammar.{command_of};
+ghost use Rattle.tinymist_session.specs.Machine.{State, step, opening};
+ghost use Rattle.tinymist_session.specs.Session.{end_of, replies_to};
+ghost use Rattle.tinymist_session.specs.Session as plain;
+ghost use Rattle.tinymist_session.specs.Shown.{IsShown};
+ghost use Rattle.tinymist_session.specs.Run.{EndFits, Written, UnlessCutOff};
+ghost use Rattle.tinymist_session.specs.Turns.{TakesFront, TurnReads, TurnSays, PassEnds, PassSays, ends, replies, limits_of};
+
+use crate::command::read_command;
+use crate::machine::Machine;
+use crate::reader::{Filled, LineRead, LineReader};
+use crate::reply::line_of;
+use crate::sink::{ByteSink, FlushStep, WriteStep};
+use crate::source::LineSource;
+use std::alloc::{AllocError, Global};
+use ty_cells::PathAccessModel;
+use ty_path::OutOfMemory;
+
+/// Why a session ended before its input did, or after input that is no session.
+#[derive(Clone, Copy, Debug, PartialEq, Eq)]
+pub enum SessionFault {
+    /// The source failed.
+    ReadFault,
+    /// The sink failed, or took nothing of a piece that isn't empty.
+    WriteFault,
+    /// The line of this number, from 1 on, is too long or is no sentence.
+    BadLine(u64),
+    /// There are more lines than the limit.
+    Full,
+    /// No memory was left.
+    OutOfMemory,
+}
+
+impl From<OutOfMemory> for SessionFault {
+    ghost use Rattle.tinymist_session.specs.declared.session.SessionFault.TheVariants.{OutOfMemory as no_memory};
+
+    ghost from_gives = { λ _ fault. fault ≡ no_memory };
+
+    fn from(_: OutOfMemory) -> Self {
+        SessionFault::OutOfMemory
+    }
+}
+
+impl From<AllocError> for SessionFault {
+    ghost use Rattle.tinymist_session.specs.declared.session.SessionFault.TheVariants.{OutOfMemory as no_memory};
+
+    ghost from_gives = { λ _ fault. fault ≡ no_memory };
+
+    fn from(_: AllocError) -> Self {
+        SessionFault::OutOfMemory
+    }
+}
+
+/// The limits of a session.
+#[derive(Clone, Copy, Debug, PartialEq, Eq)]
+pub struct Limits {
+    /// The most bytes of a line, without its LF.
+    pub max_line: u32,
+    /// The most lines.
+    pub max_lines: u32,
+}
+
+/// A session under way.
+#[derive(Drop)]
+struct Session {
+    alloc: Global,
+    machine: Machine,
+    reader: LineReader,
+}
+
+impl Session {
+    fn new(alloc: Global) -> Result<Session, OutOfMemory>
+        ensures shown { IfOk result (λ s. IsShown s.machine.live s.machine.views.items s.machine.tags opening) }
+        ensures revision { IfOk result (λ s. s.machine.live.held.revision ≡ 2) }
+        ensures space { IfOk result (λ s. s.machine.tags.next_space ≡ 2) }
+        ensures held { IfOk result (λ s. held_of s.reader ≡ []) }
+    {
+        Ok(Session {
+            alloc,
+            machine: Machine::new(alloc)?,
+            reader: LineReader::new(alloc)?,
+        })
+    }
+
+    /// Answers the line that was read last.
+    fn turn<W: ByteSink, M: PathAccessModel>(
+        &mut self,
+        sink: &mut W,
+        disk: &mut M,
+        number: u64,
+    ) -> Result<(), SessionFault>
+        requires revision { self.old.machine.live.held.revision < 2 ^ 63 }
+        requires space { self.old.machine.tags.next_space < 2 ^ 63 }
+        ensures reads { TurnReads (command_of (line_of self.old.reader)) number result }
+        ensures quiet { command_of (line_of self.old.reader) ≡ None → W.taken sink.new ≡ W.taken sink.old }
+        ensures says { (told : Told) (s : State) (command : Command) → M.told disk.old ≡ Some told → IsShown self.old.machine.live self.old.machine.views.items self.old.machine.tags s
+            → command_of (line_of self.old.reader) ≡ Some command → TurnSays (step s told command) (W.taken sink.old) (W.taken sink.new) self.new.machine.live self.new.machine.views.items self.new.machine.tags result }
+        ensures left { (told : Told) → M.told disk.old ≡ Some told → IsFixed told → M.told disk.new ≡ Some told }
+        ensures reader { self.new.reader ≡ self.old.reader }
+        ensures revision { self.new.machine.live.held.revision ≤ self.old.machine.live.held.revision + 1 }
+        ensures space { self.new.machine.tags.next_space ≤ self.old.machine.tags.next_space + 1 }
+        ensures faults { W.faults sink.old ≤ W.faults sink.new }
+        ensures dry { W.dry sink.old ≤ W.dry sink.new }
+        ensures cause { IsErrOf result SessionFault.WriteFault → Rose (W.faults sink.old) (W.faults sink.new) ⊎ Rose (W.dry sink.old) (W.dry sink.new) }
+    {
+        let Some(command) = read_command(self.alloc, self.reader.line())? else {
+            return Err(SessionFault::BadLine(number));
+        };
+        let reply = self.machine.step(disk, command)?;
+        let line = line_of(self.alloc, reply)?;
+        if write_all(sink, line.as_bytes()) {
+            Ok(())
+        } else {
+            Err(SessionFault::WriteFault)
+        }
+    }
+
+    /// Reads a line and answers it. `Ok(true)` says that there may be more, `Ok(false)` that the input ended.
+    fn pass<S: LineSource, W: ByteSink, M: PathAccessModel>(
+        &mut self,
+        source: &mut S,
+        sink: &mut W,
+        disk: &mut M,
+        limits: Limits,
+        n: u32,
+    ) -> Result<bool, SessionFault>
+        requires room { n < limits.max_lines }
+        requires revision { self.old.machine.live.held.revision < 2 ^ 63 }
+        requires space { self.old.machine.tags.next_space < 2 ^ 63 }
+        ensures ends { (rest : List ℕ) → ahead self.old.reader (S.left source.old) ≡ Some rest → PassEnds (limits_of limits) n rest (ahead self.new.reader (S.left source.new)) result }
+        ensures says { (rest : List ℕ) (told : Told) (s : State) → ahead self.old.reader (S.left source.old) ≡ Some rest → M.told disk.old ≡ Some told → IsShown self.old.machine.live self.old.machine.views.items self.old.machine.tags s
+            → PassSays (limits_of limits) told s n rest (ahead self.new.reader (S.left source.new)) (W.taken sink.old) (W.taken sink.new) self.new.machine.live self.new.machine.views.items self.new.machine.tags result }
+        ensures left { (told : Told) → M.told disk.old ≡ Some told → IsFixed told → M.told disk.new ≡ Some told }
+        ensures at_end { result ≡ Ok false → IsAtEnd (ahead self.new.reader (S.left source.new)) }
+        ensures revision { self.new.machine.live.held.revision ≤ self.old.machine.live.held.revision + 1 }
+        ensures space { self.new.machine.tags.next_space ≤ self.old.machine.tags.next_space + 1 }
+        ensures read_cause { HasCause (IsErrOf result SessionFault.ReadFault) (S.faults source.old) (S.faults source.new) }
+        ensures faults { W.faults sink.old ≤ W.faults sink.new }
+        ensures dry { W.dry sink.old ≤ W.dry sink.new }
+        ensures write_cause { IsErrOf result SessionFault.WriteFault → Rose (W.faults sink.old) (W.faults sink.new) ⊎ Rose (W.dry sink.old) (W.dry sink.new) }
+    {
+        let number = u64::from(n) + 1;
+        match self.reader.read_line(source, sink, limits.max_line) {
+            LineRead::Line => match self.turn(sink, disk, number) {
+                Ok(()) => Ok(true),
+                Err(fault) => Err(fault),
+            },
+            LineRead::Last => match self.turn(sink, disk, number) {
+                Ok(()) => Ok(false),
+                Err(fault) => Err(fault),
+            },
+            LineRead::End => Ok(false),
+            LineRead::ReadFailed => Err(SessionFault::ReadFault),
+            LineRead::FlushFailed => Err(SessionFault::WriteFault),
+            LineRead::TooLong => Err(SessionFault::BadLine(number)),
+            LineRead::OutOfMemory => Err(SessionFault::OutOfMemory),
+        }
+    }
+
+    /// After the last line that may come: nothing is to follow.
+    fn close<S: LineSource, W: ByteSink>(
+        &mut self,
+        source: &mut S,
+        sink: &mut W,
+    ) -> Result<(), SessionFault>
+        ensures ends { (limits : plain.Limits) (rest : List ℕ) → ahead self.old.reader (S.left source.old) ≡ Some rest → EndFits (ends limits limits.max_lines rest) result }
+        ensures silent { (limits : plain.Limits) (told : Told) (s : State) (rest : List ℕ) → ahead self.old.reader (S.left source.old) ≡ Some rest → UnlessCutOff result (replies limits told s limits.max_lines rest ≡ []) }
+        ensures taken { W.taken sink.new ≡ W.taken sink.old }
+        ensures at_end { OnOk result (IsAtEnd (ahead self.new.reader (S.left source.new))) }
+        ensures read_cause { HasCause (IsErrOf result SessionFault.ReadFault) (S.faults source.old) (S.faults source.new) }
+        ensures faults { W.faults sink.old ≤ W.faults sink.new }
+        ensures dry { W.dry sink.old ≤ W.dry sink.new }
+        ensures write_cause { IsErrOf result SessionFault.WriteFault → Rose (W.faults sink.old) (W.faults sink.new) ⊎ Rose (W.dry sink.old) (W.dry sink.new) }
+    {
+        match self.reader.look_ahead(source, sink) {
+            Filled::Some => Err(SessionFault::Full),
+            Filled::End => Ok(()),
+            Filled::ReadFailed => Err(SessionFault::ReadFault),
+            Filled::FlushFailed => Err(SessionFault::WriteFault),
+        }
+    }
+
+    /// Answers all lines.
+    fn run<S: LineSource, W: ByteSink, M: PathAccessModel>(
+        &mut self,
+        source: &mut S,
+        sink: &mut W,
+        disk: &mut M,
+        limits: Limits,
+    ) -> Result<(), SessionFault>
+        requires shown { IsShown self.old.machine.live self.old.machine.views.items self.old.machine.tags opening }
+        requires revision { self.old.machine.live.held.revision ≡ 2 }
+        requires space { self.old.machine.tags.next_space ≡ 2 }
+        requires held { held_of self.old.reader ≡ [] }
+        ensures ends { (input : List ℕ) → S.left source.old ≡ Some input → EndFits (end_of (limits_of limits) input) result }
+        ensures written { (input : List ℕ) (told : Told) → S.left source.old ≡ Some input → M.told disk.old ≡ Some told → IsFixed told
+            → Written (replies_to (limits_of limits) told input) (W.taken sink.old) (W.taken sink.new) result }
+        ensures read { OnOk result (IsAtEnd (S.left source.new)) }
+        ensures read_cause { IsErrOf result SessionFault.ReadFault → Rose (S.faults source.old) (S.faults source.new) }
+        ensures faults { W.faults sink.old ≤ W.faults sink.new }
+        ensures dry { W.dry sink.old ≤ W.dry sink.new }
+        ensures write_cause { IsErrOf result SessionFault.WriteFault → Rose (W.faults sink.old) (W.faults sink.new) ⊎ Rose (W.dry sink.old) (W.dry sink.new) }
+    {
+        for n in 0..limits.max_lines {
+            match self.pass(source, sink, disk, limits, n) {
+                Ok(true) => {}
+                Ok(false) => return Ok(()),
+                Err(fault) => return Err(fault),
+            }
+        }
+        self.close(source, sink)
+    }
+}
+
+/// Offers a piece until the sink has taken all of it, has failed or took nothing.
+fn write_all<W: ByteSink>(sink: &mut W, piece: &[u8]) -> bool
+    ensures whole { result ≡ true → W.taken sink.new ≡ append_known (W.taken sink.old) piece.now }
+    ensures front { TakesFront (W.taken sink.old) (W.taken sink.new) piece.now }
+    ensures faults { W.faults sink.old ≤ W.faults sink.new }
+    ensures dry { W.dry sink.old ≤ W.dry sink.new }
+    ensures cause { result ≡ false → Rose (W.faults sink.old) (W.faults sink.new) ⊎ Rose (W.dry sink.old) (W.dry sink.new) }
+{
+    let mut at = 0;
+    while at < piece.len() {
+        match sink.write(&piece[at..]) {
+            WriteStep::Took(0) => return false,
+            WriteStep::Took(n) => at += n,
+            WriteStep::Failed => return false,
+        }
+    }
+    true
+}
+
+/// Flushes what was written, whatever the answer. A failure is one where none came before.
+fn finish<W: ByteSink>(sink: &mut W, answer: Result<(), SessionFault>) -> Result<(), SessionFault>
+    ensures same { (result ≡ answer) ⊎ (result ≡ Err SessionFault.WriteFault) }
+    ensures taken { W.taken sink.new ≡ W.taken sink.old }
+    ensures flushed { UnlessCutOff result (IsTrue (W.flushed sink.new)) }
+    ensures faults { W.faults sink.old ≤ W.faults sink.new }
+    ensures dry { W.dry sink.old ≤ W.dry sink.new }
+    ensures cause { IsErrOf result SessionFault.WriteFault → IsErrOf answer SessionFault.WriteFault ⊎ Rose (W.faults sink.old) (W.faults sink.new) }
+{
+    match sink.flush() {
+        FlushStep::Done => answer,
+        FlushStep::Failed => match answer {
+            Err(SessionFault::ReadFault) => answer,
+            Err(SessionFault::OutOfMemory) => answer,
+            _ => Err(SessionFault::WriteFault),
+        },
+    }
+}
+
+/// Runs a session: reads lines from the source, answers each into the sink, and flushes the sink before each
+/// read that may wait and at the end.
+///
+/// # Errors
+///
+/// `BadLine(n)` and `Full` exactly where the input ends so, `ReadFault` and `WriteFault` only where a count
+/// of the source or the sink rose, and want of memory.
+pub fn run_session<S: LineSource, W: ByteSink, M: PathAccessModel>(
+    alloc: Global,
+    source: &mut S,
+    sink: &mut W,
+    disk: &mut M,
+    limits: Limits,
+) -> Result<(), SessionFault>
+    ensures ends { (input : List ℕ) → S.left source.old ≡ Some input → EndFits (end_of (limits_of limits) input) result }
+    ensures written { (input : List ℕ) (told : Told) → S.left source.old ≡ Some input → M.told disk.old ≡ Some told → IsFixed told
+        → Written (replies_to (limits_of limits) told input) (W.taken sink.old) (W.taken sink.new) result }
+    ensures read { OnOk result (IsAtEnd (S.left source.new)) }
+    ensures flushed { UnlessCutOff result (IsTrue (W.flushed sink.new)) }
+    ensures read_cause { IsErrOf result SessionFault.ReadFault → Rose (S.faults source.old) (S.faults source.new) }
+    ensures write_cause { IsErrOf result SessionFault.WriteFault → Rose (W.faults sink.old) (W.faults sink.new) ⊎ Rose (W.dry sink.old) (W.dry sink.new) }
+{
+    let mut session = match Session::new(alloc) {
+        Ok(session) => session,
+        Err(OutOfMemory) => return Err(SessionFault::OutOfMemory),
+    };
+    let answer = session.run(source, sink, disk, limits);
+    finish(sink, answer)
+}

@@ -1,0 +1,118 @@
+//! Standard input and output, or whatever else the library reads and writes. They tell nothing of their bytes.
+ghost use Rattle.std.specs.Prelude.{◌≡◌, ◌≤◌, None, IfOk, length, drop};
+
+use crate::memory::copy_front;
+use crate::sink::{ByteSink, FlushStep, WriteStep};
+use crate::source::{LineSource, ReadStep};
+use std::alloc::Global;
+use std::io::{self, Read, Write};
+use ty_path::OutOfMemory;
+
+/// The most bytes that one read or write hands to the system.
+pub const PIECE: usize = 65_536;
+
+/// A reader of the library as a source. What it gives is not proved: this is a thin edge.
+#[derive(Drop)]
+pub struct StdinSource<R: Read + Drop> {
+    inner: R,
+    piece: Vec<u8>,
+    faults: u64,
+}
+
+impl<R: Read + Drop> StdinSource<R> {
+    /// The source over a reader, with a buffer of one piece.
+    pub fn new(alloc: Global, inner: R) -> Result<StdinSource<R>, OutOfMemory> {
+        Ok(StdinSource {
+            inner,
+            piece: vec![in alloc; 0; PIECE]?,
+            faults: 0,
+        })
+    }
+}
+
+/// Reads into the piece, and copies what came to the front of the buffer, whose rest stays as it was.
+fn read_front<R: Read>(inner: &mut R, piece: &mut [u8], buf: &mut [u8]) -> io::Result<usize>
+    ensures { IfOk result (λ n. (n ≤ length buf.new) × (drop n buf.new ≡ drop n buf.old)) }
+{
+    let room = buf.len().min(piece.len());
+    let n = inner.read(&mut piece[..room])?;
+    copy_front(&piece[..n], buf);
+    Ok(n)
+}
+
+impl<R: Read + Drop> LineSource for StdinSource<R> {
+    ghost left = { λ _. None };
+
+    ghost faults = { λ s. s.faults };
+
+    fn read(&mut self, buf: &mut [u8]) -> ReadStep {
+        match read_front(&mut self.inner, &mut self.piece, buf) {
+            Ok(n) => ReadStep::Got(n),
+            Err(_) => {
+                self.faults = self.faults.saturating_add(1);
+                ReadStep::Failed
+            }
+        }
+    }
+}
+
+/// A writer of the library as a sink. What becomes of the bytes is not proved: this is a thin edge.
+#[derive(Drop)]
+pub struct StdSink<W: Write + Drop> {
+    inner: W,
+    faults: u64,
+    dry: u64,
+    flushed: bool,
+}
+
+impl<W: Write + Drop> StdSink<W> {
+    /// The sink over a writer.
+    pub fn new(inner: W) -> StdSink<W> {
+        StdSink {
+            inner,
+            faults: 0,
+            dry: 0,
+            flushed: false,
+        }
+    }
+}
+
+impl<W: Write + Drop> ByteSink for StdSink<W> {
+    ghost taken = { λ _. None };
+
+    ghost faults = { λ s. s.faults };
+
+    ghost dry = { λ s. s.dry };
+
+    ghost flushed = { λ s. s.flushed };
+
+    fn write(&mut self, piece: &[u8]) -> WriteStep {
+        match self.inner.write(piece) {
+            Ok(n) => {
+                if n > 0 {
+                    self.flushed = false;
+                } else if !piece.is_empty() {
+                    self.dry = self.dry.saturating_add(1);
+                }
+                WriteStep::Took(n)
+            }
+            Err(_) => {
+                self.faults = self.faults.saturating_add(1);
+                WriteStep::Failed
+            }
+        }
+    }
+
+    fn flush(&mut self) -> FlushStep {
+        match self.inner.flush() {
+            Ok(()) => {
+                self.flushed = true;
+                FlushStep::Done
+            }
+            Err(_) => {
+                self.faults = self.faults.saturating_add(1);
+                FlushStep::Failed
+            }
+        }
+    }
+}

@@ -1,0 +1,110 @@
+//! The fields of a line, and the words that stand in them.
+ghost use Rattle.std.specs.Prelude.{◌≡◌, ◌∷◌, [], IfOk, IfSome, IfNone, true, false};
+ghost use Rattle.std.specs.Option.{option_map, option_and_then};
+ghost use Rattle.std.specs.List.{list_all};
+ghost use Rattle.std.specs.String.{string_bytes};
+ghost use Rattle.ty_model.specs.Values.{Content};
+ghost use Rattle.ty_model.specs.Paths.{parts_at, clean};
+ghost use Rattle.tinymist_session.specs.Grammar as grammar;
+
+use hex::FromHexError;
+use std::alloc::Global;
+use ty_path::{OutOfMemory, clean, is_absolute};
+
+/// The line as text, where it is UTF-8 without control bytes but tabs.
+pub(crate) fn text_of(line: &[u8]) -> Option<&str>
+    ensures some { IfSome result (λ text. (text.now ≡ line.now) × (grammar.is_text line.now ≡ true)) }
+    ensures none { IfNone result (grammar.is_text line.now ≡ false) }
+{
+    match std::str::from_utf8(line) {
+        Ok(text) => { if is_plain(line) { Some(text) } else { None } }
+        Err(_) => None,
+    }
+}
+
+fn is_plain(line: &[u8]) -> bool
+    ensures { result ≡ list_all grammar.is_plain line.now }
+{
+    line.iter().all(|b| (*b >= 32 && *b != 127) || *b == b'\t')
+}
+
+/// The first field, and the rest of the line after its tab.
+pub(crate) fn cut(text: &str) -> Option<(&str, &str)>
+    ensures some { IfSome result (λ parts. parts_at 9 text.now ≡ parts.0.now ∷ parts_at 9 parts.1.now) }
+    ensures none { IfNone result (parts_at 9 text.now ≡ text.now ∷ []) }
+{
+    text.split_once('\t')
+}
+
+/// A number in decimal without leading zeros.
+pub(crate) fn number(word: &str) -> Option<u64>
+    ensures { result ≡ grammar.number_of word.now }
+{
+    let digits = word.as_bytes();
+    if digits.is_empty() {
+        return None;
+    }
+    if digits.len() > 1 && digits[0] == b'0' {
+        return None;
+    }
+    digits_from(0, digits)
+}
+
+/// The number that the digits write after those of `start`, below 2 ^ 64.
+fn digits_from(start: u64, digits: &[u8]) -> Option<u64>
+    ensures { result ≡ option_and_then grammar.fits_64 (grammar.decimal_from start digits.now) }
+{
+    let mut n = start;
+    for d in digits {
+        if *d < b'0' || *d > b'9' {
+            return None;
+        }
+        let Some(tens) = n.checked_mul(10) else {
+            return None;
+        };
+        let Some(next) = tens.checked_add(u64::from(*d - b'0')) else {
+            return None;
+        };
+        n = next;
+    }
+    Some(n)
+}
+
+/// A path that is its cleaned form.
+#[derive(Drop)]
+pub(crate) struct CleanPath {
+    pub(crate) text: String,
+    ghost is_clean: { clean (string_bytes text) ≡ string_bytes text },
+}
+
+/// The word, where it is an absolute path that is its cleaned form.
+pub(crate) fn path(alloc: Global, word: &str) -> Result<Option<CleanPath>, OutOfMemory>
+    ensures { IfOk result (λ path. option_map (λ p. string_bytes p.text) path ≡ grammar.path_of word.now) }
+{
+    if !is_absolute(word) {
+        return Ok(None);
+    }
+    let text = clean(alloc, word)?;
+    if word == text.as_str() {
+        Ok(Some(CleanPath { text }))
+    } else {
+        Ok(None)
+    }
+}
+
+/// The bytes of a content: `=` and hexadecimal digits, two for each byte.
+pub(crate) fn content(alloc: Global, word: &str) -> Result<Option<Vec<u8>>, OutOfMemory>
+    ensures { IfOk result (λ bytes. option_map (λ b. Content b.items) bytes ≡ grammar.content_of word.now) }
+{
+    let Some((first, digits)) = word.as_bytes().split_first() else {
+        return Ok(None);
+    };
+    if *first != b'=' {
+        return Ok(None);
+    }
+    match hex::decode(alloc, digits) {
+        Ok(bytes) => Ok(Some(bytes)),
+        Err(FromHexError::OutOfMemory) => Err(OutOfMemory),
+        Err(_) => Ok(None),
+    }
+}

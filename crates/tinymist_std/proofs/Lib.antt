@@ -1,0 +1,5 @@
+mod Texts
+mod PlainKinds
+mod Zeros
+mod HalfTexts
+mod FingerprintTexts

@@ -1,0 +1,8 @@
+-- A value that is owned or lent.
+use Rattle.tinymist_std.specs.declared.cow_mut.CowMut.{CowMut}
+use Rattle.tinymist_std.specs.declared.cow_mut.CowMut.TheVariants.{Owned, Borrowed}
+
+-- the value within
+abbrev pub cow_value : {T : Type 0} → CowMut T → T
+cow_value (Owned x) = x
+cow_value (Borrowed r) = r.now

@@ -1,0 +1,14 @@
+pub mod Diagnostic
+pub mod Error
+pub mod ErrKind
+pub mod Context
+pub mod ErrorArgs
+pub mod Fingerprint
+pub mod Hash
+pub mod HashedTrait
+pub mod FingerprintBuilder
+pub mod Query
+pub mod CowMut
+pub mod CowBytes
+pub mod Date
+pub mod FingerprintMap

@@ -1,0 +1,55 @@
+//! Maps behind a row of locks.
+ghost use Rattle.std.specs.Prelude.{◌≡◌, ◌<◌, length, IfOk};
+
+use std::alloc::Global;
+use std::collections::HashMap;
+use std::hash::{BuildHasher, BuildHasherDefault, FoldHasher, Hash};
+use std::sync::{RwLock, Wait};
+use ty_path::OutOfMemory;
+
+/// A map whose entries stand in a row of parts, each behind a lock. A key stands in the part that
+/// its hash names.
+#[derive(Drop)]
+pub struct FxDashMap<K: Eq + Hash, V> {
+    shards: Vec<RwLock<HashMap<K, V>>>,
+    ghost some: { 0 < length shards.items },
+}
+
+impl<K: Eq + Hash + Drop, V: Drop> FxDashMap<K, V> {
+    /// An empty map of so many parts.
+    pub fn new(alloc: Global, shards: u32) -> Result<FxDashMap<K, V>, OutOfMemory>
+        requires { 0 < shards }
+    {
+        let count = shards;
+        let mut shards = Vec::with_capacity(alloc, count as usize)?;
+        for _shard in 0..count {
+            shards.push(RwLock::new(HashMap::new(alloc)))?;
+        }
+        Ok(FxDashMap { shards })
+    }
+
+    /// Puts the value under the key, and answers the one that stood there. Where memory runs out,
+    /// the map is as before.
+    pub fn insert<R: Wait>(&self, rt: &R, k: K, v: V) -> Result<Option<V>, OutOfMemory> {
+        let mut shard = self.shard(&k).write(rt);
+        Ok(shard.insert(k, v)?)
+    }
+
+    /// Takes the key's entry out, and answers its value.
+    pub fn remove<R: Wait>(&self, rt: &R, k: &K) -> Option<V> {
+        let mut shard = self.shard(k).write(rt);
+        shard.remove(k)
+    }
+
+    /// Whether the map holds the key.
+    pub fn contains_key<R: Wait>(&self, rt: &R, k: &K) -> bool {
+        self.shard(k).read(rt).contains_key(k)
+    }
+
+    // The part of the key.
+    fn shard(&self, k: &K) -> &RwLock<HashMap<K, V>> {
+        let hasher: BuildHasherDefault<FoldHasher> = BuildHasherDefault::default();
+        let number = hasher.hash_one(k) as usize % self.shards.len();
+        &self.shards[number]
+    }
+}

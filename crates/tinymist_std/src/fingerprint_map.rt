@@ -1,0 +1,81 @@
+//! Maps from fingerprints behind a row of locks.
+ghost use Rattle.std.specs.Prelude.{◌≡◌, ◌%◌, ◌^◌, ◌<◌, length, min, slice_index_or, IfOk};
+ghost use Rattle.std.specs.Int.{IsNextPowerOfTwo};
+ghost use Rattle.std.specs.List.Sorted.{IsSortedByKey};
+
+use crate::fingerprint::Fingerprint;
+use std::alloc::Global;
+use std::collections::HashMap;
+use std::sync::{RwLock, Wait};
+use ty_path::OutOfMemory;
+
+/// One part of a [`FingerprintMap`], behind a lock of its own.
+pub type FingerprintMapShard<V> = RwLock<HashMap<Fingerprint, V>>;
+
+/// A map from fingerprints whose entries stand in a row of parts, each behind a lock.
+#[derive(Drop)]
+pub struct FingerprintMap<V> {
+    shards: Vec<RwLock<HashMap<Fingerprint, V>>>,
+    ghost some: { 0 < length shards.items },
+}
+
+impl<V: Drop> FingerprintMap<V> {
+    ghost use Rattle.tinymist_std.specs.FingerprintMap.{shards_of};
+
+    /// An empty map of so many parts, or of the next power of two, but of 512 at most.
+    pub fn new(alloc: Global, shards: u32) -> Result<FingerprintMap<V>, OutOfMemory>
+        requires { 0 < shards }
+        ensures { IfOk result (λ map. IsNextPowerOfTwo (min shards 512) (length (shards_of map))) }
+    {
+        let count = shards.min(512).next_power_of_two();
+        let mut shards = Vec::with_capacity(alloc, count as usize)?;
+        for _shard in 0..count {
+            shards.push(RwLock::new(HashMap::new(alloc)))?;
+        }
+        Ok(FingerprintMap { shards })
+    }
+
+    /// The part in which the fingerprint stands: the one whose number is the low 32 bits modulo
+    /// the count of parts.
+    pub fn shard(&self, fg: Fingerprint) -> &RwLock<HashMap<Fingerprint, V>>
+        ensures { result.now ≡ slice_index_or (shards_of self.now)
+            (fg.low % 2 ^ 32 % length (shards_of self.now)) result.now }
+    {
+        &self.shards[self.shard_number(fg)]
+    }
+
+    // The number of the part in which the fingerprint stands. Locks are seen as equal whatever
+    // they hold, so only this number tells which part it is.
+    fn shard_number(&self, fg: Fingerprint) -> usize
+        ensures { result ≡ fg.low % 2 ^ 32 % length (shards_of self.now) }
+    {
+        fg.lower32() as usize % self.shards.len()
+    }
+
+    /// The parts.
+    pub fn as_mut_slice(&mut self) -> &mut [RwLock<HashMap<Fingerprint, V>>]
+        ensures { result.now ≡ shards_of self.old }
+    {
+        self.shards.as_mut_slice()
+    }
+
+    /// Whether the map holds the fingerprint.
+    pub fn contains_key<R: Wait>(&self, rt: &R, fg: &Fingerprint) -> bool {
+        self.shard(*fg).read(rt).contains_key(fg)
+    }
+
+    /// The entries, which ascend by the fingerprint's low half, and then by its high half.
+    pub fn into_items(self, alloc: Global) -> Result<Vec<(Fingerprint, V)>, OutOfMemory>
+        ensures { IfOk result (λ items.
+            IsSortedByKey (λ item. item.0) ⟦<Fingerprint as Ord>⟧.cmp items.items) }
+    {
+        let mut items = Vec::new(alloc);
+        for shard in self.shards {
+            for item in shard.into_inner() {
+                items.push(item)?;
+            }
+        }
+        items.sort_unstable_by_key(|item| item.0);
+        Ok(items)
+    }
+}

@@ -1,0 +1,82 @@
+//! Bytes and days as text, values taken and lent, and maps behind locks, by example.
+use crate::*;
+use jiff::civil::date;
+use std::sync::Arc;
+use std::test::Fail;
+
+#[test]
+fn bytes_have_texts(rt: HostRuntime) -> Result<(), Fail> {
+    let alloc = rt.alloc();
+    let text = AsCowBytes::to_text(alloc, &[1, 0, 0, 0, 0, 0, 0, 0])?;
+    assert_eq!(rt; text.as_str(), "AQAAAAAAAAA=");
+    let text = AsCowBytes::to_text(alloc, &[0, 1])?;
+    assert_eq!(rt; text.as_str(), "AAE=");
+    let bytes = AsCowBytes::from_text(alloc, "AAE=")?;
+    assert_eq!(rt; bytes.as_slice(), [0u8, 1].as_slice());
+    let refused = AsCowBytes::from_text(alloc, "AAE");
+    assert_eq!(rt; refused.err().ok_or("no error")?.loc(), "from_text");
+    Ok(())
+}
+
+#[test]
+fn days_have_texts(rt: HostRuntime) -> Result<(), Fail> {
+    let rows = [
+        (date(1970, 1, 1), "1970-01-01"),
+        (date(987, 12, 31), "0987-12-31"),
+        (date(-44, 3, 15), "-0044-03-15"),
+    ];
+    for (day, want) in rows {
+        let text = yyyy_mm_dd(rt.alloc(), day)?;
+        assert_eq!(rt; text.as_str(), want);
+    }
+    assert!(rt; 0i64.to_utc_datetime().is_some());
+    assert!(rt; i64::MAX.to_utc_datetime().is_none());
+    Ok(())
+}
+
+#[test]
+fn values_are_taken_and_lent(rt: HostRuntime) -> Result<(), Fail> {
+    let alloc = rt.alloc();
+    let shared = Arc::new(alloc, 7u8)?;
+    let other = Arc::try_clone(&shared)?;
+    assert_eq!(rt; other.take()?, 7);
+    assert_eq!(rt; shared.take()?, 7);
+    let mut number = 3u8;
+    assert_eq!(rt; *CowMut::Borrowed(&mut number).get(), 3);
+    let mut owned = CowMut::Owned(4u8);
+    *owned.get_mut() += 1;
+    assert_eq!(rt; *owned.get(), 5);
+    let mut bytes = vec![in alloc; b'a']?;
+    assert_eq!(rt; b"bc".as_slice().read_all(&mut bytes)?, 2);
+    assert_eq!(rt; bytes.as_slice(), b"abc".as_slice());
+    Ok(())
+}
+
+#[test]
+fn fingerprint_maps_hold_entries(rt: HostRuntime) -> Result<(), Fail> {
+    let mut map: FingerprintMap<u8> = FingerprintMap::new(rt.alloc(), 3)?;
+    assert_eq!(rt; map.as_mut_slice().len(), 4);
+    let high = Fingerprint::from_pair(1, 2);
+    let low = Fingerprint::from_pair(1, 1);
+    let first = Fingerprint::from_pair(0, 9);
+    for fingerprint in [high, first, low] {
+        let _absent = map.shard(fingerprint).write(&rt).insert(fingerprint, 1)?;
+    }
+    assert!(rt; map.contains_key(&rt, &low));
+    assert!(rt; !map.contains_key(&rt, &Fingerprint::from_pair(5, 5)));
+    let items = map.into_items(rt.alloc())?;
+    let keys: Vec<Fingerprint> = items.iter().map(|item| item.0).collect(rt.alloc())?;
+    assert!(rt; keys.as_slice() == [first, low, high].as_slice());
+    Ok(())
+}
+
+#[test]
+fn dash_maps_hold_entries(rt: HostRuntime) -> Result<(), Fail> {
+    let map: FxDashMap<u64, u8> = FxDashMap::new(rt.alloc(), 5)?;
+    assert_eq!(rt; map.insert(&rt, 1, 10)?, None);
+    assert_eq!(rt; map.insert(&rt, 1, 11)?, Some(10));
+    assert!(rt; map.contains_key(&rt, &1));
+    assert_eq!(rt; map.remove(&rt, &1), Some(11));
+    assert!(rt; !map.contains_key(&rt, &1));
+    Ok(())
+}

@@ -1,0 +1,17 @@
+-- What a commit does to what is kept.
+use Rattle.std.specs.Prelude.{◌≡◌, ◌-◌, ◌^◌, IsTrue, List}
+use Rattle.ty_model.specs.Batch.{Item, rises}
+use Rattle.ty_model.specs.Standing.{Held}
+use Rattle.ty_model.specs.Touched.{commit_held}
+use Rattle.ty_model.specs.Held.{Kept}
+
+abbrev pub put_held : {R : Type 0} → Kept R → Held → Kept R
+put_held k h = record k { held = h }
+
+-- what is kept after a commit of the batch
+abbrev pub committed : {R : Type 0} → Kept R → List Item → Kept R
+committed k batch = put_held k (commit_held k.held batch)
+
+-- a commit of the batch would raise the revision past its last value
+abbrev pub is_full : Held → List Item → Type 0
+is_full h batch = IsTrue (rises h.space h.revision h.layers batch) × (h.revision ≡ 2 ^ 64 - 1)

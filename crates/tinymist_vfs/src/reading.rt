@@ -1,0 +1,90 @@
+//! A read of an id: what the layers decide, else what the disk says.
+ghost use Rattle.std.specs.Prelude.{◌≡◌, ◌⊎◌, IfOk, Option};
+ghost use Rattle.ty_path.specs.Shared.{path_text};
+ghost use Rattle.ty_model.specs.LookUp as plain;
+ghost use Rattle.ty_model.specs.Disk.{Told};
+ghost use Rattle.ty_model.specs.Held.{version_of};
+ghost use Rattle.tinymist_vfs.specs.Reading.{decision_of, ReadsAsTold, AsksAsTold};
+
+use crate::layers::Layers;
+use crate::resolver::{PathResolution, RootResolver};
+use crate::store::{at_id, at_path};
+use crate::vfs::Vfs;
+use std::alloc::Global;
+use std::sync::Arc;
+use ty_cells::{FileSnapshot, OwnCells, PathAccessModel};
+use ty_path::{ImmutPath, OutOfMemory, Share};
+use ty_syntax::{Bytes, FileError, FileFault, FileId, FileResult};
+
+/// What a version says of an id by itself.
+#[derive(Drop)]
+pub(crate) enum Decision {
+    /// An overlay or a told file has it.
+    Says(FileSnapshot),
+    /// It has no path, or its package is refused.
+    Refuses(FileError),
+    /// The disk decides.
+    Asks(ImmutPath),
+}
+
+impl Layers {
+    /// The path overlay before the told files, and these before the disk.
+    fn decide(&self, alloc: Global, path: ImmutPath) -> Result<Decision, OutOfMemory>
+        ensures { IfOk result (λ d. decision_of d ≡ plain.path_decision self.now (path_text path)) }
+    {
+        if let Some(shadow) = at_path(&self.by_path, &path) {
+            return Ok(Decision::Says(shadow.share(alloc)?));
+        }
+        if let Some(told) = at_path(&self.told, &path) {
+            return Ok(Decision::Says(told.share(alloc)?));
+        }
+        Ok(Decision::Asks(path))
+    }
+}
+
+impl<R: RootResolver> Vfs<R> {
+    fn decide(&self, id: &FileId) -> Result<Decision, OutOfMemory>
+        ensures { IfOk result (λ d. decision_of d ≡ plain.decision (version_of R.known self.now) id.now) }
+    {
+        if let Some(shadow) = at_id(&self.layers.by_id, id) {
+            return Ok(Decision::Says(shadow.share(self.alloc)?));
+        }
+        match self.resolver.path_for_id(self.alloc, id) {
+            Ok(PathResolution::Resolved(path)) => {
+                self.layers.decide(self.alloc, Arc::new(self.alloc, path)?)
+            }
+            Ok(PathResolution::Rootless(_)) => Ok(Decision::Refuses(FileError::AccessDenied)),
+            Err(FileFault::File(error)) => Ok(Decision::Refuses(error)),
+            Err(FileFault::OutOfMemory) => Err(OutOfMemory),
+        }
+    }
+
+    /// The bytes of an id: the overlay by id, else by its path, else the told file, else the disk.
+    ///
+    /// # Errors
+    ///
+    /// `AccessDenied` of an id without a path that no overlay has, the refusal of its package, or the
+    /// error that the deciding layer or the disk has for it.
+    pub fn read<M: PathAccessModel>(
+        &self,
+        cells: &mut OwnCells<'_, M>,
+        id: &FileId,
+    ) -> FileResult<Bytes>
+        ensures same_disk { cells.new.disk.ghost_name ≡ cells.old.disk.ghost_name }
+        ensures read { ReadsAsTold (plain.decision (version_of R.known self.now) id.now) (M.told cells.old.disk.now) result (M.told cells.new.disk.now) }
+    {
+        match self.decide(id)? {
+            Decision::Says(snap) => snap.into_content(self.alloc),
+            Decision::Refuses(error) => Err(FileFault::File(error)),
+            Decision::Asks(path) => self.ask(cells, path.as_str()),
+        }
+    }
+
+    fn ask<M: PathAccessModel>(&self, cells: &mut OwnCells<'_, M>, path: &str) -> FileResult<Bytes>
+        ensures same_disk { cells.new.disk.ghost_name ≡ cells.old.disk.ghost_name }
+        ensures read { AsksAsTold path.now (M.told cells.old.disk.now) result (M.told cells.new.disk.now) }
+    {
+        let answer = cells.ask(self.alloc, path)?;
+        answer.into_content(self.alloc)
+    }
+}

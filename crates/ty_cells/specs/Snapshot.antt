@@ -1,0 +1,21 @@
+-- What is said of a file, as an answer.
+use Rattle.std.specs.Prelude.{◌≡◌, ℕ, List, Result, Ok, Err, ⊤}
+use Rattle.std.specs.Arc.{arc_value}
+use Rattle.std.specs.declared.sync.Arc.{Arc}
+use Rattle.std.specs.declared.alloc.Global.{Global}
+use Rattle.ty_model.specs.Values.{Answer, Content, Refused}
+use Rattle.ty_syntax.specs.declared.error.FileError.{FileError}
+use Rattle.ty_syntax.specs.declared.error.FileFault.{FileFault}
+use Rattle.ty_syntax.specs.declared.error.FileFault.TheVariants.{File, OutOfMemory}
+use Rattle.ty_syntax.specs.Error.{refusal_of}
+
+-- bytes, or an error that is shared
+abbrev pub answer_by : Result (List ℕ) (Arc FileError Global) → Answer
+answer_by (Ok bytes) = Content bytes
+answer_by (Err error) = Refused (refusal_of (arc_value error))
+
+-- the result is this answer, unless memory is wanting
+abbrev pub AnswersAs : Answer → Result (List ℕ) FileFault → Type 0
+AnswersAs answer (Ok bytes) = answer ≡ Content bytes
+AnswersAs answer (Err (File error)) = answer ≡ Refused (refusal_of error)
+AnswersAs answer (Err OutOfMemory) = ⊤

@@ -1,0 +1,90 @@
+//! What is said of a file: its bytes or an error.
+ghost use Rattle.std.specs.Prelude.{◌≡◌, ◌↔◌, IsTrue, IfOk};
+ghost use Rattle.ty_model.specs.Values.{Answer, Content, Refused, same_answer};
+ghost use Rattle.ty_syntax.specs.Error.{refusal_of};
+
+use std::alloc::Global;
+use std::marker::Model;
+use std::sync::Arc;
+use ty_path::{OutOfMemory, Share};
+use ty_syntax::{Bytes, FileError, FileFault, FileResult};
+
+/// The bytes of a file, or what is wrong with it. Contracts see the answer.
+#[derive(Drop)]
+pub struct FileSnapshot(pub Result<Bytes, Arc<FileError>>);
+
+impl Model for FileSnapshot {
+    ghost use Rattle.ty_model.specs.Values.{Answer};
+    ghost use Rattle.ty_model.specs.Codes.{answer_code};
+    ghost use Rattle.ty_cells.specs.Snapshot.{answer_by};
+
+    ghost Value = { Answer };
+
+    ghost coded = { answer_code };
+
+    ghost view = { λ s. answer_by s.0 };
+}
+
+impl FileSnapshot {
+    ghost use Rattle.ty_cells.specs.Snapshot.{AnswersAs};
+
+    /// A file with these bytes.
+    pub fn from_bytes(bytes: Bytes) -> FileSnapshot
+        ensures { result ≡ Content bytes }
+    {
+        FileSnapshot(Ok(bytes))
+    }
+
+    /// A file with this error.
+    pub fn from_error(alloc: Global, error: FileError) -> Result<FileSnapshot, OutOfMemory>
+        ensures { IfOk result (λ s. s ≡ Refused (refusal_of error)) }
+    {
+        Ok(FileSnapshot(Err(Arc::new(alloc, error)?)))
+    }
+
+    /// The bytes, or a copy of the error.
+    pub fn into_content(self, alloc: Global) -> FileResult<Bytes>
+        ensures { AnswersAs self result }
+    {
+        match self.0 {
+            Ok(bytes) => Ok(bytes),
+            Err(error) => Err(FileFault::File(error.share(alloc)?)),
+        }
+    }
+
+    /// Whether both say the same, by their bytes or errors.
+    pub fn same_as(&self, other: &FileSnapshot) -> bool
+        ensures { result ≡ same_answer self.now other.now }
+    {
+        self.says_same(other)
+    }
+
+    fn says_same(&self, other: &FileSnapshot) -> bool
+        ensures { IsTrue result ↔ (self.now ≡ other.now) }
+    {
+        match (&self.0, &other.0) {
+            (Ok(a), Ok(b)) => a.as_slice() == b.as_slice(),
+            (Err(a), Err(b)) => same_error(a, b),
+            _ => false,
+        }
+    }
+}
+
+fn same_error(a: &FileError, b: &FileError) -> bool
+    ensures { IsTrue result ↔ (refusal_of a.now ≡ refusal_of b.now) }
+{
+    a == b
+}
+
+impl Share for FileSnapshot {
+    ghost Seen = { Answer };
+
+    ghost seen = { λ s. s };
+
+    fn share(&self, alloc: Global) -> Result<FileSnapshot, OutOfMemory> {
+        match &self.0 {
+            Ok(bytes) => Ok(FileSnapshot(Ok(bytes.share(alloc)?))),
+            Err(error) => Ok(FileSnapshot(Err(Arc::try_clone(error)?))),
+        }
+    }
+}

@@ -1,0 +1,58 @@
+//! Worked answers of a disk in memory, through the cells of a reader.
+
+use super::*;
+use std::alloc::Global;
+use std::test::Fail;
+use ty_path::Share;
+use ty_syntax::{Bytes, FileError};
+
+/// A file with these bytes.
+fn holding(alloc: Global, bytes: &[u8]) -> Result<FileSnapshot, Fail> {
+    Ok(FileSnapshot::from_bytes(Bytes::new(alloc, bytes.to_vec(alloc)?)?))
+}
+
+/// A disk without files.
+fn empty_disk(alloc: Global) -> MapAccess {
+    let files = Vec::new(alloc);
+    MapAccess::new(files)
+}
+
+#[test]
+fn an_empty_disk_finds_nothing(rt: HostRuntime) -> Result<(), Fail> {
+    let mut disk = empty_disk(rt.alloc());
+    let mut cells = OwnCells::new(&mut disk);
+    let path = String::from_str(rt.alloc(), "/w/a.typ")?;
+    let missing = FileSnapshot::from_error(rt.alloc(), FileError::NotFound(path))?;
+    assert!(rt; cells.ask(rt.alloc(), "/w/a.typ")?.same_as(&missing));
+    assert!(rt;
+        cells
+            .disk()
+            .content(rt.alloc(), "/w/a.typ")?
+            .same_as(&missing)
+    );
+    Ok(())
+}
+
+#[test]
+fn what_is_said_is_compared_by_its_content(rt: HostRuntime) -> Result<(), Fail> {
+    let alloc = rt.alloc();
+    let path = String::from_str(alloc, "/a")?;
+    let said = vec![in alloc;
+        holding(alloc, b"")?,
+        holding(alloc, b"a")?,
+        FileSnapshot::from_error(alloc, FileError::NotFound(path))?,
+        FileSnapshot::from_error(alloc, FileError::AccessDenied)?,
+        FileSnapshot::from_error(alloc, FileError::Other(None))?,
+    ]?;
+    for (place, one) in said.iter().enumerate() {
+        for (other_place, other) in said.iter().enumerate() {
+            let copy = other.share(alloc)?;
+            assert_eq!(rt;
+                one.same_as(&copy),
+                place == other_place,
+                "{place} and {other_place}"
+            );
+        }
+    }
+    Ok(())
+}

@@ -1,0 +1,9 @@
+pub mod DiskLaws
+pub mod Tests
+pub mod Commits
+pub mod Marks
+pub mod Folds
+pub mod Standing
+pub mod Clean
+pub mod Cuts
+pub mod PathLaws

@@ -1,0 +1,14 @@
+pub mod Values
+pub mod Paths
+pub mod Places
+pub mod Disk
+pub mod Version
+pub mod Batch
+pub mod LookUp
+pub mod Standing
+pub mod Touched
+pub mod Held
+pub mod Space
+pub mod Counters
+pub mod Faults
+pub mod Codes

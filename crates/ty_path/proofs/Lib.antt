@@ -1,0 +1,6 @@
+pub mod PartLaws
+pub mod JoinLaws
+pub mod UpLaws
+pub mod CloseLaws
+pub mod NormalLaws
+pub mod RelativeLaws

@@ -1,0 +1,4 @@
+pub mod Component
+pub mod Parts
+pub mod Seen
+pub mod Shared

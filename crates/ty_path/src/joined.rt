@@ -1,0 +1,35 @@
+//! A path below another.
+ghost use Rattle.std.specs.Prelude.{◌≡◌, IfOk, string_bytes};
+ghost use Rattle.ty_model.specs.Paths as plain;
+
+use crate::memory::OutOfMemory;
+use crate::parts::is_absolute;
+use std::alloc::Global;
+
+/// `other` below `base`, with one slash between the two.
+///
+/// An absolute `other` stands alone, and an empty side gives the other side.
+pub fn join(alloc: Global, base: &str, other: &str) -> Result<String, OutOfMemory>
+    ensures { IfOk result (λ text. string_bytes text ≡ plain.join base.now other.now) }
+{
+    if base.is_empty() || is_absolute(other) {
+        return Ok(String::from_str(alloc, other)?);
+    }
+    if other.is_empty() {
+        return Ok(String::from_str(alloc, base)?);
+    }
+    let mut text = String::with_capacity(alloc, base.len() + 1 + other.len())?;
+    text.push_str(base)?;
+    if !ends_in_slash(base) {
+        text.push('/')?;
+    }
+    text.push_str(other)?;
+    Ok(text)
+}
+
+/// Whether the path's last byte is a slash.
+fn ends_in_slash(path: &str) -> bool
+    ensures { result ≡ plain.ends_in_slash path.now }
+{
+    path.ends_with('/')
+}

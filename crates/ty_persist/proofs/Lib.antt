@@ -1,0 +1,5 @@
+pub mod Entries
+pub mod Low
+pub mod Probes
+pub mod Places
+pub mod Replaced

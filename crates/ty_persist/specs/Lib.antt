@@ -1,0 +1,6 @@
+pub mod Contents
+pub mod Shape
+pub mod Seen
+pub mod Rest
+pub mod Texts
+pub mod ListMap

@@ -1,0 +1,35 @@
+-- What a node of the tree is seen as, and what holds of it.
+use Rattle.std.specs.Prelude.{◌≡◌, ℕ, ◌+◌, ◌≤◌, max, List, [], ◌∷◌, ◌++◌}
+use Rattle.std.specs.declared.cmp.Ordering.{Ordering}
+use Rattle.ty_persist.specs.Contents.{Contents, IsAscending, IsLow}
+use Rattle.ty_persist.specs.declared.entry.Entry.{Entry}
+use Rattle.ty_persist.specs.declared.tree.Root.{Root}
+use Rattle.ty_persist.specs.declared.tree.Root.TheVariants.{Leaf, Fork}
+
+-- the entries in order, and the height that the node stores
+abbrev pub contents : {K V : Type 0} → Root K V → Contents K V
+contents Leaf = record { entries = []; height = 0 }
+contents (Fork n) = record { entries = n.value.left.entries ++ (n.value.entry.value.key, n.value.entry.value.value) ∷ n.value.right.entries; height = n.value.height }
+
+-- the keys ascend, the stored height is right, and the sides differ by at most one
+abbrev pub IsAvl : {K V : Type 0} → (K → K → Ordering) → Root K V → Type 0
+IsAvl cmp Leaf = Unit {0}
+IsAvl cmp (Fork n) = IsAscending cmp (contents (Fork n)).entries × IsLow (contents (Fork n))
+    × (n.value.height ≡ max n.value.left.height n.value.right.height + 1)
+    × (n.value.left.height ≤ n.value.right.height + 1) × (n.value.right.height ≤ n.value.left.height + 1)
+
+-- an entry as the pair of its key and its value
+abbrev pub pair : {K V : Type 0} → Entry K V → K × V
+pair e = (e.key, e.value)
+
+-- the entries of both sides round e
+abbrev pub around : {K V : Type 0} → Contents K V → Entry K V → Contents K V → List (K × V)
+around l e r = l.entries ++ pair e ∷ r.entries
+
+-- neither height is more than this above the other
+abbrev pub DifferByAtMost : ℕ → ℕ → ℕ → Type 0
+DifferByAtMost by l r = (l ≤ r + by) × (r ≤ l + by)
+
+-- the height h of what a node with sides of the heights l and r settles to
+abbrev pub IsHeightAfterRebalance : ℕ → ℕ → ℕ → Type 0
+IsHeightAfterRebalance l r h = (max l r ≤ h) × (h ≤ max l r + 1) × (DifferByAtMost 1 l r → h ≡ max l r + 1)

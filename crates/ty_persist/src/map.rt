@@ -1,0 +1,184 @@
+//! An ordered map whose older versions stay: a share of it costs one step, and a change copies the nodes of one path.
+ghost use Rattle.std.specs.Prelude.{◌≡◌, ◌+◌, ◌*◌, ◌≤◌, ◌↔◌, [], length, IsTrue, is_some, IfOk, OnOk, OnErr};
+ghost use Rattle.std.specs.Option.{option_copied, option_map};
+ghost use Rattle.std.specs.Map.{lookup, remove_entry};
+ghost use Rattle.std.specs.BTreeMap.{is_at};
+ghost use Rattle.std.specs.Map.Iter.{ShowsInOrder, deref_pair};
+ghost use Rattle.ty_persist.specs.Contents.{put_entry, IsAscending, IsLow};
+ghost use Rattle.ty_persist.specs.Texts.{is_text};
+
+use crate::entry::Entry;
+use crate::tree::Tree;
+use crate::{Iter, Steps};
+use std::alloc::Global;
+use std::marker::Model;
+use std::sync::Arc;
+use std::sync::ledger::Ledger;
+use ty_path::{ImmutPath, OutOfMemory, Share};
+
+/// A map in the order of its keys, whose shares cost one step.
+pub struct Map<K: Ord + Share, V: Share> {
+    alloc: Global,
+    len: usize,
+    tree: Tree<K, V>,
+}
+
+impl<K: Ord + Share, V: Share> Model for Map<K, V> {
+    ghost use Rattle.ty_persist.specs.Contents.{Contents, contents_code, IsMap};
+
+    ghost Value = { Contents K V };
+
+    ghost coded = { contents_code K.code V.code };
+
+    ghost view = { λ m. m.tree };
+
+    ghost invariant = { λ m. IsMap K.cmp m.len m.tree };
+}
+
+impl<K: Ord + Share, V: Share> Drop for Map<K, V> {
+    fn drop(self) {
+        let Map {
+            alloc: _,
+            len: _,
+            tree: _,
+        } = self;
+    }
+}
+
+impl<K: Ord + Share, V: Share> Map<K, V> {
+    /// A map without entries, which takes no memory.
+    pub fn new(alloc: Global) -> Map<K, V>
+        ensures { result.entries ≡ [] }
+    {
+        Map {
+            alloc,
+            len: 0,
+            tree: Tree::new(),
+        }
+    }
+
+    /// The same map again, which later changes of either leave as it is. An error leaves all as before.
+    pub fn share<L: Ledger>(&self, steps: &mut Steps<L>) -> Result<Map<K, V>, OutOfMemory>
+        ensures same { IfOk result (λ again. again ≡ self.now) }
+        ensures cost { steps.new ≤ steps.old + 1 }
+    {
+        steps.tick();
+        Ok(Map {
+            alloc: self.alloc,
+            len: self.len,
+            tree: self.tree.share()?,
+        })
+    }
+
+    /// The value at a key.
+    pub fn get(&self, key: &K) -> Option<&V>
+        ensures { option_copied result ≡ lookup (is_at (K.cmp key.now)) self.now.entries }
+    {
+        self.tree.get(key)
+    }
+
+    /// Sets the value of a key, and answers a share of the one before. Want of memory leaves the map as it was.
+    pub fn insert<L: Ledger>(
+        &mut self,
+        key: K,
+        value: V,
+        steps: &mut Steps<L>,
+    ) -> Result<Option<V>, OutOfMemory>
+        ensures before { IfOk result (λ before. option_map V.seen before ≡ option_map V.seen (lookup (is_at (K.cmp key)) self.old.entries)) }
+        ensures ok { OnOk result (self.new.entries ≡ put_entry K.cmp self.old.entries key value) }
+        ensures err { OnErr result (self.new ≡ self.old) }
+        ensures cost { steps.new ≤ steps.old + 4 * (self.old.height + 1) }
+    {
+        let before = share_option(self.alloc, self.tree.get(&key))?;
+        match before {
+            Some(before) => {
+                self.tree.replace(self.alloc, key, value, steps)?;
+                Ok(Some(before))
+            }
+            None => {
+                let len = one_more(self.len)?;
+                steps.tick();
+                let entry = Arc::new(self.alloc, Entry { key, value })?;
+                self.tree = self.tree.with_entry(self.alloc, entry, steps)?;
+                self.len = len;
+                Ok(None)
+            }
+        }
+    }
+
+    /// Takes a key out, and answers a share of its value. Want of memory leaves the map as it was.
+    pub fn remove<L: Ledger>(
+        &mut self,
+        key: &K,
+        steps: &mut Steps<L>,
+    ) -> Result<Option<V>, OutOfMemory>
+        ensures before { IfOk result (λ before. option_map V.seen before ≡ option_map V.seen (lookup (is_at (K.cmp key.now)) self.old.entries)) }
+        ensures ok { OnOk result (self.new.entries ≡ remove_entry (is_at (K.cmp key.now)) self.old.entries) }
+        ensures ascending { IsAscending K.cmp self.old.entries }
+        ensures err { OnErr result (self.new ≡ self.old) }
+        ensures cost { steps.new ≤ steps.old + 4 * (self.old.height + 1) }
+    {
+        match share_option(self.alloc, self.tree.get(key))? {
+            None => Ok(None),
+            Some(before) => {
+                let tree = self.tree.without_key(self.alloc, key, steps)?;
+                self.tree = tree;
+                self.len -= 1;
+                Ok(Some(before))
+            }
+        }
+    }
+
+    /// The entries in the order of their keys.
+    pub fn iter(&self) -> Iter<'_, K, V>
+        ensures rest { result ≡ self.now.entries }
+        ensures runs { ShowsInOrder (deref_pair {K = K} {X = V}) }
+        ensures ascending { IsAscending K.cmp self.now.entries }
+    {
+        Iter::new(&self.tree)
+    }
+
+    /// How many keys there are.
+    pub fn len(&self) -> usize
+        ensures len { result ≡ length self.now.entries }
+        ensures ascending { IsAscending K.cmp self.now.entries }
+        ensures low { IsLow self.now }
+    {
+        self.len
+    }
+
+    /// Whether there is no key.
+    pub fn is_empty(&self) -> bool
+        ensures { IsTrue result ↔ (self.now.entries ≡ []) }
+    {
+        self.len == 0
+    }
+}
+
+impl<V: Share> Map<ImmutPath, V> {
+    /// The value at the path with this text, as `get` at that path. It takes no memory.
+    pub fn get_text(&self, path: &str) -> Option<&V>
+        ensures { option_copied result ≡ lookup (is_text path.now) self.now.entries }
+    {
+        self.tree.get_text(path)
+    }
+}
+
+fn share_option<V: Share>(alloc: Global, value: Option<&V>) -> Result<Option<V>, OutOfMemory>
+    ensures same { IfOk result (λ again. option_map V.seen again ≡ option_map V.seen (option_copied value.entry)) }
+    ensures there { IfOk result (λ again. is_some again ≡ is_some (option_copied value.entry)) }
+{
+    match value {
+        Some(value) => Ok(Some(value.share(alloc)?)),
+        None => Ok(None),
+    }
+}
+
+fn one_more(len: usize) -> Result<usize, OutOfMemory>
+    ensures { IfOk result (λ n. n ≡ len + 1) }
+{
+    match len.checked_add(1) {
+        Some(len) => Ok(len),
+        None => Err(OutOfMemory),
+    }
+}

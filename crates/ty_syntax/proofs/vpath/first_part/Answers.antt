@@ -1,0 +1,10 @@
+use Rattle.std.proofs.Common.{◌≡◌, lit<}
+use Rattle.std.proofs.lemmas.Str.Pattern.{split_once_first}
+use Rattle.ty_model.proofs.Cuts.{cut_is, some_part, none_part}
+use Rattle.ty_syntax.proofs.vpath.first_part.Goals as goal
+
+pub returns-clause-some : goal.returns-clause-some
+returns-clause-some c = some_part c.split_once.result _ _ (cut_is 47 c.args.text.now c.split_once.result (split_once_first 47 c.args.text.now c.split_once.result c.split_once.ensures.cases (lit< tt)))
+
+pub returns-clause-none : goal.returns-clause-none
+returns-clause-none c = none_part c.split_once.result _ _ (cut_is 47 c.args.text.now c.split_once.result (split_once_first 47 c.args.text.now c.split_once.result c.split_once.ensures.cases (lit< tt)))

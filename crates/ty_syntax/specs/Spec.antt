@@ -1,0 +1,11 @@
+-- Package specifications as plain data.
+use Rattle.std.specs.String.{string_bytes}
+use Rattle.ty_model.specs.Values as plain
+use Rattle.ty_syntax.specs.declared.spec.PackageVersion.{PackageVersion}
+use Rattle.ty_syntax.specs.declared.spec.PackageSpec.{PackageSpec}
+
+abbrev pub numbers_of : PackageVersion → plain.Numbers
+numbers_of v = record { major = v.major; minor = v.minor; patch = v.patch }
+
+abbrev pub spec_of : PackageSpec → plain.Spec
+spec_of s = record { namespace = string_bytes s.namespace; name = string_bytes s.name; numbers = numbers_of s.version }

@@ -1,0 +1,164 @@
+//! Ids of files: a root, a virtual path and a tag.
+ghost use Rattle.std.specs.Prelude.{◌≡◌, IfOk, refl};
+ghost use Rattle.ty_model.specs.Values as plain;
+ghost use Rattle.std.specs.Ordering.{as_partial_cmp};
+ghost use Rattle.ty_syntax.specs.IdOrder.{root_cmp, same_id, id_total, id_equiv, id_part, id_order};
+ghost use Rattle.ty_syntax.specs.Id.{root_of};
+ghost use Rattle.ty_model.specs.Places.{interned, stored_root};
+
+use crate::spec::PackageSpec;
+use crate::vpath::VirtualPath;
+use std::alloc::Global;
+use std::cmp::Ordering;
+use std::marker::Model;
+use std::sync::Arc;
+use ty_path::{OutOfMemory, Share, clean};
+
+/// What a virtual path stands below.
+#[derive(Debug, PartialEq, Eq, PartialOrd, Ord, Drop)]
+pub enum Root {
+    /// Nothing that has a path.
+    Project,
+    /// A folder.
+    Workspace(String),
+    /// A folder, for a file that has no path yet.
+    UntitledRooted(String),
+    /// A package.
+    Package(PackageSpec),
+}
+
+impl Root {
+    ghost use Rattle.ty_syntax.specs.Id.{root_of};
+
+    fn into_stored(self, alloc: Global) -> Result<Root, OutOfMemory>
+        ensures { IfOk result (λ root. root_of root ≡ stored_root (root_of self)) }
+    {
+        match self {
+            Root::Workspace(root) => Ok(Root::Workspace(clean(alloc, root.as_str())?)),
+            Root::UntitledRooted(root) => Ok(Root::UntitledRooted(clean(alloc, root.as_str())?)),
+            other => Ok(other),
+        }
+    }
+}
+
+#[derive(Drop)]
+struct Parts {
+    root: Root,
+    vpath: VirtualPath,
+    tag: u64,
+}
+
+/// An id: one shared value of three parts, by which it is compared and ordered. Contracts see the parts.
+#[derive(Drop)]
+pub struct FileId {
+    parts: Arc<Parts>,
+}
+
+impl Model for FileId {
+    ghost use Rattle.ty_model.specs.Values.{Id};
+    ghost use Rattle.ty_syntax.specs.IdParts.{id_of_parts};
+    ghost use Rattle.std.specs.Arc.{arc_value};
+
+    ghost Value = { Id };
+
+    ghost view = { λ i. id_of_parts (arc_value i.parts) };
+}
+
+impl FileId {
+    ghost use Rattle.ty_syntax.specs.Id.{root_of};
+
+    /// The id without a tag. The root of a workspace is stored cleaned.
+    pub fn intern(alloc: Global, root: Root, vpath: VirtualPath) -> Result<FileId, OutOfMemory>
+        ensures { IfOk result (λ id. id ≡ interned (root_of root) vpath) }
+    {
+        let parts = Parts {
+            root: root.into_stored(alloc)?,
+            vpath,
+            tag: 0,
+        };
+        Ok(FileId {
+            parts: Arc::new(alloc, parts)?,
+        })
+    }
+
+    pub fn root(&self) -> &Root
+        ensures { root_of result.now ≡ self.now.root }
+    {
+        &self.parts.root
+    }
+
+    pub fn vpath(&self) -> &VirtualPath
+        ensures { result.now ≡ self.now.vpath }
+    {
+        &self.parts.vpath
+    }
+
+    pub fn tag(&self) -> u64
+        ensures { result ≡ self.now.tag }
+    {
+        self.parts.tag
+    }
+}
+
+impl Share for FileId {
+    ghost Seen = { plain.Id };
+
+    ghost seen = { λ i. i };
+
+    fn share(&self, _alloc: Global) -> Result<FileId, OutOfMemory> {
+        Ok(FileId {
+            parts: Arc::try_clone(&self.parts)?,
+        })
+    }
+}
+
+fn order_of_roots(a: &Root, b: &Root) -> Ordering
+    ensures { result ≡ root_cmp (root_of a.now) (root_of b.now) }
+{
+    a.cmp(b)
+}
+
+impl PartialEq for FileId {
+    ghost eq = { same_id };
+
+    ghost laws = { id_part };
+
+    fn eq(&self, other: &FileId) -> bool {
+        self.cmp(other).is_eq()
+    }
+}
+
+impl Eq for FileId {
+    ghost laws = { id_equiv };
+}
+
+impl PartialOrd for FileId {
+    ghost partial_cmp = { as_partial_cmp plain.id_cmp };
+
+    ghost laws = { id_order };
+
+    fn partial_cmp(&self, other: &FileId) -> Option<Ordering> {
+        Some(self.cmp(other))
+    }
+}
+
+impl Ord for FileId {
+    ghost cmp = { plain.id_cmp };
+
+    ghost total = { id_total };
+
+    ghost matches_partial_cmp = { λ x y. refl };
+
+    ghost matches_eq = { λ x y. refl };
+
+    fn cmp(&self, other: &FileId) -> Ordering {
+        order_of_roots(&self.parts.root, &other.parts.root)
+            .then(
+                self.parts
+                    .vpath
+                    .get_with_slash()
+                    .cmp(other.parts.vpath.get_with_slash()),
+            )
+            .then(self.parts.tag.cmp(&other.parts.tag))
+    }
+}

@@ -1,0 +1,35 @@
+//! Package specifications.
+ghost use Rattle.std.specs.Prelude.{◌≡◌};
+ghost use Rattle.ty_model.specs.Values as plain;
+ghost use Rattle.ty_syntax.specs.Spec.{spec_of};
+
+use std::alloc::Global;
+use ty_path::{OutOfMemory, Share};
+
+#[derive(Clone, Copy, Debug, PartialEq, Eq, PartialOrd, Ord, Hash)]
+pub struct PackageVersion {
+    pub major: u32,
+    pub minor: u32,
+    pub patch: u32,
+}
+
+#[derive(Debug, PartialEq, Eq, PartialOrd, Ord, Hash, Drop)]
+pub struct PackageSpec {
+    pub namespace: String,
+    pub name: String,
+    pub version: PackageVersion,
+}
+
+impl Share for PackageSpec {
+    ghost Seen = { plain.Spec };
+
+    ghost seen = { spec_of };
+
+    fn share(&self, _alloc: Global) -> Result<Self, OutOfMemory> {
+        Ok(PackageSpec {
+            namespace: self.namespace.clone()?,
+            name: self.name.clone()?,
+            version: self.version,
+        })
+    }
+}
