@@ -35,7 +35,7 @@ held-after old new from to to' n same same_to within =
     ∙ sym (drop-take (n + 1) (to - (from + n + 1)) (drop from old))
     ∙ ap (λ (k : ℕ). drop (n + 1) (take k (drop from old))) (sym count))
 
-both_lines : (xs ys : List ℕ) → IsLine xs → IsLine ys → IsLine (xs ++ ys)
+pub both_lines : (xs ys : List ℕ) → IsLine xs → IsLine ys → IsLine (xs ++ ys)
 both_lines xs ys p q = list_any-append (λ b. b == 10) xs ys ∙ rw (p, q) refl
 
 either_size : (a b : ℕ) → (a ≤ b) ⊎ (b < a)
@@ -56,6 +56,14 @@ module _ (max : ℕ) (old mid new : Option (List ℕ)) (gathered tail line : Lis
     | inl short ↦ rw (fits short) (all, plain_all, short)
     | inr more ↦ rw (long more) (10 ∷ [], all, plain_all, more)
   ]
+
+-- a part that goes on
+pub more-read : (old left left' : Option (List ℕ)) (gathered held more gathered' held' : List ℕ) → old ≡ prepend_known (gathered ++ held) left → prepend_known held left ≡ prepend_known more (prepend_known held' left') → gathered' ≡ gathered ++ more
+    → old ≡ prepend_known (gathered' ++ held') left'
+more-read old left left' gathered held more gathered' held' before next is =
+    let after = prepend_known held' left' in
+    before ∙ sym (prepend-prepend left gathered held) ∙ ap (prepend_known gathered) next ∙ prepend-prepend after gathered more
+    ∙ ap (λ (g : List ℕ). prepend_known g after) (sym is) ∙ prepend-prepend left' gathered' held'
 
 pub append-append : (known : Option (List ℕ)) (xs ys : List ℕ) → append_known (append_known known xs) ys ≡ append_known known (xs ++ ys)
 append-append None xs ys = refl
@@ -78,7 +86,7 @@ held_none piece from to none = let zero_is : to - from ≡ 0 = omega arith in rw
 pub fills_finds : (before held : List ℕ) (left left' : Option (List ℕ)) (r : Filled) → before ≡ [] → Fills left left' held r → FindsByte (prepend_known before left) (prepend_known held left') r
 fills_finds before held left left' filled.Some none h = (held, left', rw none (nothing left ∙ h.0), h.1)
 fills_finds before held left left' filled.End none h = (rw (none, h.2) (nothing left ∙ h.0 ∙ sym (nothing left')), rw h.2 (rw nothing h.1))
-fills_finds before held left left' filled.ReadFailed none h = tt
+fills_finds before held left left' filled.ReadFailed none h = rw (none, h.1) (nothing left ∙ h.0 ∙ sym (nothing left'))
 fills_finds before held left left' filled.FlushFailed none h = tt
 
 -- nothing is held at the start

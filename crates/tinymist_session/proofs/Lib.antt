@@ -6,3 +6,8 @@ pub mod Reading
 pub mod Fixed
 pub mod Lines
 pub mod Passes
+pub mod Fronts
+pub mod Bounds
+pub mod Runs
+pub mod Options
+pub mod Told

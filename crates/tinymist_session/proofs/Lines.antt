@@ -64,6 +64,10 @@ shifted n a b c =
     let move = λ (m : ℕ). let e : n + suc m ≡ n + 1 + m = omega arith in e in
     λ i. end_with (move a i) (move b i) (move c i)
 
+-- a line that isn't too long is good as what it reads as
+pub is_good : (limits : Limits) (line : List ℕ) → length line ≤ limits.max_line → good_line limits line ≡ command_of line
+is_good limits line h = rw (fits (length line) limits.max_line h)
+
 module _ (limits : Limits) (n : ℕ) (line : List ℕ) (rest : List (List ℕ)) (room : n < limits.max_lines) where
   budget : limits.max_lines - n ≡ suc (limits.max_lines - (n + 1))
   budget = omega arith
@@ -73,9 +77,6 @@ module _ (limits : Limits) (n : ℕ) (line : List ℕ) (rest : List (List ℕ)) 
 
   commands_at : commands_after limits n (line ∷ rest) ≡ before (good_line limits line) (commands_after limits (n + 1) rest)
   commands_at = ap (good_commands limits) within
-
-  good : length line ≤ limits.max_line → good_line limits line ≡ command_of line
-  good h = rw (fits (length line) limits.max_line h)
 
   long : limits.max_line < length line → good_line limits line ≡ None
   long h = rw (past limits.max_line (length line) h)
@@ -100,16 +101,16 @@ module _ (limits : Limits) (n : ℕ) (line : List ℕ) (rest : List (List ℕ)) 
       ∙ ap (λ (m : ℕ). Bad (m + 1)) (add-zero n)
 
   pub end_good : (command : Command) → length line ≤ limits.max_line → command_of line ≡ Some command → end_after limits n (line ∷ rest) ≡ end_after limits (n + 1) rest
-  end_good command h is = end_some command (good h ∙ is)
+  end_good command h is = end_some command (is_good limits line h ∙ is)
 
   pub commands_good : (command : Command) → length line ≤ limits.max_line → command_of line ≡ Some command → commands_after limits n (line ∷ rest) ≡ command ∷ commands_after limits (n + 1) rest
-  commands_good command h is = commands_some command (good h ∙ is)
+  commands_good command h is = commands_some command (is_good limits line h ∙ is)
 
   pub end_bad : length line ≤ limits.max_line → command_of line ≡ None → end_after limits n (line ∷ rest) ≡ Bad (n + 1)
-  end_bad h is = end_none (good h ∙ is)
+  end_bad h is = end_none (is_good limits line h ∙ is)
 
   pub commands_bad : length line ≤ limits.max_line → command_of line ≡ None → commands_after limits n (line ∷ rest) ≡ []
-  commands_bad h is = commands_none (good h ∙ is)
+  commands_bad h is = commands_none (is_good limits line h ∙ is)
 
   pub end_long : limits.max_line < length line → end_after limits n (line ∷ rest) ≡ Bad (n + 1)
   end_long h = end_none (long h)

@@ -21,7 +21,8 @@ use Rattle.tinymist_session.specs.declared.session.SessionFault.{SessionFault}
 use Rattle.tinymist_session.specs.declared.session.SessionFault.TheVariants.{ReadFault, WriteFault, BadLine, Full, OutOfMemory}
 use Rattle.tinymist_session.specs.Shown.{IsShown}
 use Rattle.tinymist_session.specs.Run.{EndFits, TakesPrefix, Written, UnlessCutOff}
-use Rattle.tinymist_session.specs.Turns.{TakesFront, TurnReads, TurnSays, commands_after, end_after, ends, replies, Passed, Pending, Ahead}
+use Rattle.tinymist_session.specs.ByteSink.{TakesFront}
+use Rattle.tinymist_session.specs.Turns.{TurnReads, TurnSays, commands_after, end_after, ends, replies, Passed, Pending, Ahead}
 use Rattle.tinymist_session.proofs.Known.{append-append}
 
 -- what is left after the bytes bs, where the bytes are told
@@ -33,14 +34,14 @@ pub some_command : (o : Option Command) → IsSome o → (c : Command) × (o ≡
 some_command None h = absurd (cc)
 some_command (Some c) h = (c, refl)
 
-append-nil_known : (known : Option (List ℕ)) → known ≡ append_known known []
+pub append-nil_known : (known : Option (List ℕ)) → known ≡ append_known known []
 append-nil_known None = refl
 append-nil_known (Some bs) = ap Some (sym (append-nil bs))
 
 pub nothing_yet : (old new : Option (List ℕ)) (all : List ℕ) → new ≡ old → TakesPrefix old new all
 nothing_yet old new all e = ([], all, e ∙ append-nil_known old, refl)
 
-front : (old new : Option (List ℕ)) (piece tail all : List ℕ) → TakesFront old new piece → all ≡ piece ++ tail → TakesPrefix old new all
+pub front : (old new : Option (List ℕ)) (piece tail all : List ℕ) → TakesFront old new piece → all ≡ piece ++ tail → TakesPrefix old new all
 front old new piece tail all h e = (take h.0 piece, drop h.0 piece ++ tail, h.1, sym (append_assoc (take h.0 piece) (drop h.0 piece) tail) ∙ ap (λ (p : List ℕ). p ++ tail) (take-append-drop h.0 piece) ∙ sym e)
 
 module _ (limits : session.Limits) (n : ℕ) (line rest : List ℕ) (more : List (List ℕ)) (room : n < limits.max_lines) (size : length line ≤ limits.max_line) (first : lines_of rest ≡ line ∷ more) where
@@ -164,23 +165,6 @@ written_flushed replies old mid new r r' same e w = elim same [ inl is ↦ rw (i
 -- what is left is told once
 pub same_rest : (left : Option (List ℕ)) (a b : List ℕ) → left ≡ Some a → left ≡ Some b → a ≡ b
 same_rest left a b e f = cc
-
-module _ (limits : session.Limits) (told : Told) (input : List ℕ) (n : ℕ) where
-  pub at_start : (left : Option (List ℕ)) (disk : Option Told) (old : Option (List ℕ)) (live : Kept MockRootResolver) (views : List (Kept MockRootResolver)) (tags : Counters) → left ≡ Some input → disk ≡ Some told → IsShown live views tags opening → Pending limits told input 0 left disk old old live views tags
-  at_start left disk old live views tags l d shown = record { rest = input; state = opening; done = []; left_is = l; disk_is = d; shown = shown; taken = append-nil_known old; goes_on = refl }
-
-  pub goes_on : (left left' : Option (List ℕ)) (disk disk' : Option Told) (old mid new : Option (List ℕ)) (live live' : Kept MockRootResolver) (views views' : List (Kept MockRootResolver)) (tags tags' : Counters)
-      → (p : Pending limits told input n left disk old mid live views tags) → disk' ≡ Some told → Passed limits told p.state n p.rest left' mid new live' views' tags' → Pending limits told input (n + 1) left' disk' old new live' views' tags'
-  goes_on left left' disk disk' old mid new live live' views views' tags tags' p d q = record {
-    rest = q.next;
-    state = q.state;
-    done = p.done ++ q.piece;
-    left_is = q.left_is;
-    disk_is = d;
-    shown = q.shown;
-    taken = q.taken ∙ ap (λ (k : Option (List ℕ)). append_known k q.piece) p.taken ∙ append-append old p.done q.piece;
-    goes_on = p.goes_on ∙ ap (λ (r : List ℕ). p.done ++ r) q.goes_on ∙ sym (append_assoc p.done q.piece (replies limits told q.state (n + 1) q.next));
-  }
 
 -- a byte after the last line that may come
 pub byte_over : (limits : session.Limits) (rest : List ℕ) (old new : Option (List ℕ)) (more : List ℕ) → old ≡ Some rest → old ≡ prepend_known more new → 0 < length more → ends limits limits.max_lines rest ≡ Over

@@ -32,3 +32,7 @@ flushed_by old flush.Failed = old
 abbrev pub IsFailedFlush : FlushStep → Type 0
 IsFailedFlush flush.Done = ⊥
 IsFailedFlush flush.Failed = ⊤
+
+-- some front of the piece was taken
+abbrev pub TakesFront : Option (List ℕ) → Option (List ℕ) → List ℕ → Type 0
+TakesFront old new piece = (n : ℕ) × (new ≡ append_known old (take n piece))

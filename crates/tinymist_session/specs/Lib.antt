@@ -11,4 +11,5 @@ pub mod Said
 pub mod Shown
 pub mod Session
 pub mod Run
+pub mod Words
 pub mod Turns

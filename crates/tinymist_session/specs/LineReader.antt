@@ -28,7 +28,7 @@ ReadsLine max old new line Line = (old ≡ prepend_known (line ++ 10 ∷ []) new
 ReadsLine max old new line Last = (old ≡ prepend_known line new) × IsLine line × (length line ≤ max) × (0 < length line) × IsAtEnd new
 ReadsLine max old new line End = (old ≡ new) × IsAtEnd new
 ReadsLine max old new line TooLong = (more : List ℕ) × (old ≡ prepend_known (line ++ more) new) × IsLine line × (max < length line)
-ReadsLine max old new line ReadFailed = ⊤
+ReadsLine max old new line ReadFailed = (old ≡ prepend_known line new) × IsLine line × (length line ≤ max)
 ReadsLine max old new line FlushFailed = ⊤
 ReadsLine max old new line OutOfMemory = ⊤
 
@@ -36,14 +36,14 @@ ReadsLine max old new line OutOfMemory = ⊤
 abbrev pub Fills : Option (List ℕ) → Option (List ℕ) → List ℕ → Filled → Type 0
 Fills old new held filled.Some = (old ≡ prepend_known held new) × (0 < length held)
 Fills old new held filled.End = (old ≡ new) × IsAtEnd new × (held ≡ [])
-Fills old new held filled.ReadFailed = ⊤
+Fills old new held filled.ReadFailed = (old ≡ new) × (held ≡ [])
 Fills old new held filled.FlushFailed = ⊤
 
 -- a byte is to be read, or none is left
 abbrev pub FindsByte : Option (List ℕ) → Option (List ℕ) → Filled → Type 0
 FindsByte old new filled.Some = (more : List ℕ) × (rest : Option (List ℕ)) × (old ≡ prepend_known more rest) × (0 < length more)
 FindsByte old new filled.End = (old ≡ new) × IsAtEnd new
-FindsByte old new filled.ReadFailed = ⊤
+FindsByte old new filled.ReadFailed = old ≡ new
 FindsByte old new filled.FlushFailed = ⊤
 
 -- what is held ends the line at its first LF, or goes on with the line
@@ -58,8 +58,8 @@ TakesPart old new part.FlushFailed = ⊥
 -- the same, of what is held and what the source has left
 abbrev pub GoesOn : LineReader → LineReader → Option (List ℕ) → Option (List ℕ) → Part → Type 0
 GoesOn old new left left' part.Whole = (tail : List ℕ) × (ahead old left ≡ prepend_known (tail ++ 10 ∷ []) (ahead new left')) × IsLine tail × (line_of new ≡ old.gathered.items ++ tail)
-GoesOn old new left left' part.More = (more : List ℕ) × (ahead old left ≡ prepend_known more (ahead new left')) × IsLine more × (0 < length more) × (new.gathered.items ≡ old.gathered.items ++ more) × (new.is_gathered ≡ old.is_gathered)
+GoesOn old new left left' part.More = (more : List ℕ) × (ahead old left ≡ prepend_known more (ahead new left')) × IsLine more × (0 < length more) × (length more ≤ 65536) × (held_of new ≡ []) × (new.gathered.items ≡ old.gathered.items ++ more) × (new.is_gathered ≡ old.is_gathered)
 GoesOn old new left left' part.End = (ahead old left ≡ ahead new left') × IsAtEnd (ahead new left') × (new.gathered.items ≡ old.gathered.items) × (new.is_gathered ≡ old.is_gathered)
 GoesOn old new left left' part.OutOfMemory = ⊤
-GoesOn old new left left' part.ReadFailed = ⊤
+GoesOn old new left left' part.ReadFailed = (ahead old left ≡ left') × (held_of new ≡ []) × (new.gathered.items ≡ old.gathered.items) × (new.is_gathered ≡ old.is_gathered)
 GoesOn old new left left' part.FlushFailed = ⊤

@@ -1,10 +1,13 @@
 -- What a run of a session answers, and what its sink took.
-use Rattle.std.specs.Prelude.{◌≡◌, ◌⊎◌, ℕ, ◌+◌, Bool, IsTrue, List, ◌++◌, Option, Some, OnOk, Result, Ok, Err, IsErrOf, ⊤}
-use Rattle.std.specs.Io.KnownBytes.{append_known, IsAtEnd}
+use Rattle.std.specs.Prelude.{◌≡◌, ◌⊎◌, ℕ, ◌+◌, ◌*◌, ◌≤◌, Bool, IsTrue, List, [], ◌∷◌, ◌++◌, length, codes, All, Option, Some, OnOk, Result, Ok, Err, IsErrOf, ⊤}
+use Rattle.std.specs.Fmt.{decimal}
+use Rattle.std.specs.Io.KnownBytes.{append_known, prepend_known, IsAtEnd}
 use Rattle.ty_model.specs.Faults.{Rose}
 use Rattle.ty_model.specs.Disk.{Told, IsFixed}
 use Rattle.tinymist_session.specs.Session as session
-use Rattle.tinymist_session.specs.Session.{End, Whole, Bad, Over, end_of, replies_to}
+use Rattle.tinymist_session.specs.Session.{End, Whole, Bad, Over, end_of, replies_to, ended, good_commands, replies_from}
+use Rattle.tinymist_session.specs.Machine.{opening}
+use Rattle.tinymist_session.specs.Lf.{IsLine}
 use Rattle.tinymist_session.specs.declared.session.SessionFault.{SessionFault}
 use Rattle.tinymist_session.specs.declared.session.SessionFault.TheVariants.{ReadFault, WriteFault, BadLine, Full, OutOfMemory}
 
@@ -30,6 +33,32 @@ Written replies old new (Err ReadFault) = TakesPrefix old new replies
 Written replies old new (Err WriteFault) = TakesPrefix old new replies
 Written replies old new (Err OutOfMemory) = TakesPrefix old new replies
 
+-- what was received of an input before a read failed: good lines, each ended by LF, and the front of one more
+pub record Received (limits : session.Limits) (input : List ℕ) (left : Option (List ℕ)) : Type 0 where
+  pub lines : List (List ℕ)
+  pub rest : List ℕ
+  pub all : Some input ≡ prepend_known (ended lines ++ rest) left
+  pub whole : All IsLine lines
+  pub front : IsLine rest
+  pub good : length (good_commands limits lines) ≡ length lines
+  pub within : length lines ≤ limits.max_lines
+  pub short : length rest ≤ limits.max_line
+  pub last : length lines ≡ limits.max_lines → rest ≡ []
+
+-- the replies to the lines that were received whole
+abbrev pub replies_received : (limits : session.Limits) → Told → (input : List ℕ) (left : Option (List ℕ)) → Received limits input left → List ℕ
+replies_received limits disk input left r = replies_from disk opening (good_commands limits r.lines)
+
+-- of this input no more than so many bytes were taken
+pub record TakenWithin (most : ℕ) (input : List ℕ) (left : Option (List ℕ)) : Type 0 where
+  pub rest : List ℕ
+  pub left_is : left ≡ Some rest
+  pub within : length input ≤ length rest + most
+
+-- the most bytes that a session takes: all its lines with their LF, and one piece
+abbrev pub most_bytes : session.Limits → ℕ
+most_bytes limits = limits.max_lines * (limits.max_line + 1) + 65536
+
 -- this holds, unless the session was cut off by a fault or want of memory
 abbrev pub UnlessCutOff : Result (Unit {0}) SessionFault → Type 0 → Type 0
 UnlessCutOff (Ok done) P = P
@@ -46,6 +75,12 @@ pub record Answered (limits : session.Limits) (left left' : Option (List ℕ)) (
   pub ends : (input : List ℕ) → left ≡ Some input → EndFits (end_of limits input) r
   -- the sink took the replies of the plain machine
   pub written : (input : List ℕ) (told : Told) → left ≡ Some input → disk ≡ Some told → IsFixed told → Written (replies_to limits told input) taken taken' r
+  -- at a read fault, the replies to the lines that were received
+  pub received : (input : List ℕ) → left ≡ Some input → IsErrOf r ReadFault → Received limits input left'
+  pub answered : (input : List ℕ) (told : Told) → left ≡ Some input → disk ≡ Some told → IsFixed told → IsErrOf r ReadFault
+      → (lines : Received limits input left') × (taken' ≡ append_known taken (replies_received limits told input left' lines))
+  -- the source is read no further than it needs
+  pub bounded : (input : List ℕ) → left ≡ Some input → TakenWithin (most_bytes limits) input left'
   -- only after the input was read to its end
   pub read : OnOk r (IsAtEnd left')
   -- what was written has gone on
@@ -63,6 +98,24 @@ status_of (Err (BadLine n)) = 3
 status_of (Err Full) = 4
 status_of (Err OutOfMemory) = 5
 
--- the limits of a session without words
-abbrev pub default_limits : session.Limits
-default_limits = record { max_line = 16777216; max_lines = 1000000 }
+-- what is said of a fault
+abbrev pub fault_text : SessionFault → List ℕ
+fault_text ReadFault = codes "read fault"
+fault_text WriteFault = codes "write fault"
+fault_text (BadLine n) = codes "bad line " ++ decimal n
+fault_text Full = codes "too many lines"
+fault_text OutOfMemory = codes "out of memory"
+
+-- the fault line of an answer; none of a session that ended well
+abbrev pub fault_line : Result (Unit {0}) SessionFault → List ℕ
+fault_line (Ok done) = []
+fault_line (Err fault) = fault_text fault ++ 10 ∷ []
+
+-- the line where the words are those of no session
+abbrev pub bad_words_line : List ℕ
+bad_words_line = codes "bad words" ++ 10 ∷ []
+
+-- a sink was told this line: it took all of it unless it failed, and else a front of it
+pub record IsTold (line : List ℕ) (old new : Option (List ℕ)) (faults faults' dry dry' : ℕ) : Type 0 where
+  pub front : TakesPrefix old new line
+  pub whole : (new ≡ append_known old line) ⊎ (Rose faults faults' ⊎ Rose dry dry')

@@ -7,6 +7,8 @@ use Rattle.ty_model.specs.Paths.{parts_at}
 use Rattle.ty_syntax.specs.Error.{refusal_of}
 use Rattle.tinymist_session.specs.Command as plain
 use Rattle.tinymist_session.specs.Reply as plain_reply
+use Rattle.tinymist_session.specs.Words as words
+use Rattle.tinymist_session.specs.declared.limits.Options.{Options}
 use Rattle.tinymist_session.specs.declared.command.Command.{Command}
 use Rattle.tinymist_session.specs.declared.command.Command.TheVariants.{Map, Snapshot, Read}
 use Rattle.tinymist_session.specs.declared.reply.Reply.{Reply}
@@ -24,6 +26,9 @@ reply_of (reply.Contents bytes) = plain_reply.Contents bytes
 reply_of (reply.Fails error) = plain_reply.Fails (refusal_of error)
 reply_of reply.BadView = plain_reply.BadView
 reply_of reply.BadId = plain_reply.BadId
+
+abbrev pub options_said : Options → words.Options
+options_said o = record { max_line = o.max_line; max_lines = o.max_lines }
 
 -- the fields of a text between tabs, if there is one
 abbrev pub fields_of : Option (Bor (List ℕ)) → List (List ℕ)

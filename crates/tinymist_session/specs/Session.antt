@@ -17,6 +17,11 @@ abbrev pub lines_of : List ℕ → List (List ℕ)
 lines_of [] = []
 lines_of (b ∷ bs) = if b == 10 then [] ∷ lines_of bs else onto_first b (lines_of bs)
 
+-- the lines, each ended by LF
+abbrev pub ended : List (List ℕ) → List ℕ
+ended [] = []
+ended (line ∷ lines) = line ++ 10 ∷ ended lines
+
 -- what a good line reads as: one that isn't too long and is a sentence
 abbrev pub good_line : Limits → List ℕ → Option Command
 good_line limits line = if nat_le (length line) limits.max_line then command_of line else None
@@ -61,6 +66,11 @@ replies_from disk s [] = []
 replies_from disk s (command ∷ commands) =
     let stepped = step s disk command in
     reply_line stepped.reply ++ replies_from disk stepped.state commands
+
+-- the state after commands, one after another
+abbrev pub state_after : Told → State → List Command → State
+state_after disk s [] = s
+state_after disk s (command ∷ commands) = state_after disk (step s disk command).state commands
 
 -- the replies to an input
 abbrev pub replies_to : Limits → Told → List ℕ → List ℕ

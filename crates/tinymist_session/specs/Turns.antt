@@ -1,24 +1,22 @@
 -- One line of a session, and the lines that are left.
-use Rattle.std.specs.Prelude.{◌≡◌, ℕ, ◌+◌, ◌-◌, Bool, true, false, List, ◌++◌, length, take, Option, Some, None, IsSome, Result, Ok, Err, ⊤}
-use Rattle.std.specs.Io.KnownBytes.{append_known}
+use Rattle.std.specs.Prelude.{◌≡◌, ℕ, ◌+◌, ◌-◌, ◌*◌, ◌≤◌, Bool, true, false, List, [], ◌∷◌, ◌++◌, length, take, All, Option, Some, None, IsSome, Result, Ok, Err, ⊤}
+use Rattle.std.specs.Io.KnownBytes.{append_known, prepend_known}
 use Rattle.ty_model.specs.Disk.{Told}
 use Rattle.ty_model.specs.Held.{Kept}
 use Rattle.ty_model.specs.Counters.{Counters}
 use Rattle.tinymist_vfs.specs.declared.resolver.MockRootResolver.{MockRootResolver}
 use Rattle.tinymist_session.specs.Command.{Command}
+use Rattle.tinymist_session.specs.ByteSink.{TakesFront}
 use Rattle.tinymist_session.specs.Reply.{reply_line}
-use Rattle.tinymist_session.specs.Machine.{State, Stepped, opening}
+use Rattle.tinymist_session.specs.Lf.{IsLine}
+use Rattle.tinymist_session.specs.Machine.{State, Stepped, opening, step}
 use Rattle.tinymist_session.specs.Session as session
-use Rattle.tinymist_session.specs.Session.{End, Whole, Bad, Over, lines_of, good_commands, end_with, replies_from}
-use Rattle.tinymist_session.specs.declared.session.Limits.{Limits}
+use Rattle.tinymist_session.specs.Session.{End, Whole, Bad, Over, lines_of, ended, good_line, good_commands, end_with, replies_from, state_after}
+use Rattle.tinymist_session.specs.declared.limits.Limits.{Limits}
 use Rattle.tinymist_session.specs.declared.session.SessionFault.{SessionFault}
 use Rattle.tinymist_session.specs.declared.session.SessionFault.TheVariants.{ReadFault, WriteFault, BadLine, Full, OutOfMemory}
 use Rattle.tinymist_session.specs.Run.{EndFits, Written}
 use Rattle.tinymist_session.specs.Shown.{IsShown}
-
--- some front of the piece was taken
-abbrev pub TakesFront : Option (List ℕ) → Option (List ℕ) → List ℕ → Type 0
-TakesFront old new piece = (n : ℕ) × (new ≡ append_known old (take n piece))
 
 -- an answer to the line that reads as this command, if any
 abbrev pub TurnReads : Option Command → ℕ → Result (Unit {0}) SessionFault → Type 0
@@ -54,8 +52,17 @@ replies limits told s n rest = replies_from told s (commands_after limits n (lin
 
 -- ---- one line of a source that tells
 
+-- a good line stands before what is left
+pub record GoodLine (limits : session.Limits) (rest next : List ℕ) : Type 0 where
+  pub line : List ℕ
+  pub command : Command
+  pub cut : rest ≡ (line ++ 10 ∷ []) ++ next
+  pub whole : IsLine line
+  pub short : length line ≤ limits.max_line
+  pub good : good_line limits line ≡ Some command
+
 abbrev pub PassEnds : session.Limits → ℕ → List ℕ → Option (List ℕ) → Result Bool SessionFault → Type 0
-PassEnds limits n rest left (Ok true) = (next : List ℕ) × (left ≡ Some next) × (ends limits n rest ≡ ends limits (n + 1) next)
+PassEnds limits n rest left (Ok true) = (next : List ℕ) × (left ≡ Some next) × (ends limits n rest ≡ ends limits (n + 1) next) × GoodLine limits rest next
 PassEnds limits n rest left (Ok false) = ends limits n rest ≡ Whole
 PassEnds limits n rest left (Err fault) = EndFits (ends limits n rest) (Err fault)
 
@@ -68,15 +75,35 @@ pub record Passed (limits : session.Limits) (told : Told) (s : State) (n : ℕ) 
   pub shown : IsShown live views tags state
   pub taken : new ≡ append_known old piece
   pub goes_on : replies limits told s n rest ≡ piece ++ replies limits told state (n + 1) next
+  pub first : GoodLine limits rest next
+  pub stepped : state ≡ (step s told first.command).state
+  pub said : piece ≡ reply_line (step s told first.command).reply
 
 abbrev pub PassSays : session.Limits → Told → State → ℕ → List ℕ → Option (List ℕ) → Option (List ℕ) → Option (List ℕ) → Kept MockRootResolver → List (Kept MockRootResolver) → Counters → Result Bool SessionFault → Type 0
 PassSays limits told s n rest left old new live views tags (Ok true) = Passed limits told s n rest left old new live views tags
 PassSays limits told s n rest left old new live views tags (Ok false) = new ≡ append_known old (replies limits told s n rest)
 PassSays limits told s n rest left old new live views tags (Err fault) = Written (replies limits told s n rest) old new (Err fault)
 
+-- the part of a line that was received before a read failed
+pub record Broken (limits : session.Limits) (rest : List ℕ) (left : Option (List ℕ)) : Type 0 where
+  pub part : List ℕ
+  pub cut : Some rest ≡ prepend_known part left
+  pub whole : IsLine part
+  pub short : length part ≤ limits.max_line
+
+-- n good lines of the input stand before the rest
+pub record Front (limits : session.Limits) (input : List ℕ) (n : ℕ) (lines : List (List ℕ)) (rest : List ℕ) : Type 0 where
+  pub cut : input ≡ ended lines ++ rest
+  pub whole : All IsLine lines
+  pub count : length lines ≡ n
+  pub good : length (good_commands limits lines) ≡ length lines
+  pub size : length (ended lines) ≤ n * (limits.max_line + 1)
+
 -- n lines of the input were answered, and the rest goes on from there
 pub record Ahead (limits : session.Limits) (input : List ℕ) (n : ℕ) (left : Option (List ℕ)) : Type 0 where
   pub rest : List ℕ
+  pub lines : List (List ℕ)
+  pub front : Front limits input n lines rest
   pub left_is : left ≡ Some rest
   pub same_end : ends limits 0 input ≡ ends limits n rest
 
@@ -84,6 +111,10 @@ pub record Pending (limits : session.Limits) (told : Told) (input : List ℕ) (n
   pub rest : List ℕ
   pub state : State
   pub done : List ℕ
+  pub lines : List (List ℕ)
+  pub front : Front limits input n lines rest
+  pub state_is : state ≡ state_after told opening (good_commands limits lines)
+  pub done_is : done ≡ replies_from told opening (good_commands limits lines)
   pub left_is : left ≡ Some rest
   pub disk_is : disk ≡ Some told
   pub shown : IsShown live views tags state

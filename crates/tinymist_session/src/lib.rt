@@ -2,6 +2,7 @@
 #![tactic(auto)]
 
 mod command;
+mod limits;
 mod machine;
 mod memory;
 mod program;
@@ -15,9 +16,10 @@ mod system;
 mod tests;
 mod words;
 
+pub use limits::{DEFAULT_LIMITS, Limits};
 pub use memory::{MemorySink, MemorySource};
-pub use program::{BAD_WORDS, DEFAULT_LIMITS, OUT_OF_MEMORY, run_program};
-pub use session::{Limits, SessionFault, run_session};
+pub use program::{BAD_WORDS, OUT_OF_MEMORY, run_program};
+pub use session::{SessionFault, run_session};
 pub use sink::{ByteSink, FlushStep, WriteStep};
 pub use source::{LineSource, ReadStep};
 pub use system::{PIECE, StdSink, StdinSource};

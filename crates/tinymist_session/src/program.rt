@@ -1,19 +1,17 @@
 //! The program: its words and its status.
-ghost use Rattle.std.specs.Prelude.{◌≡◌, ◌↔◌, ◌<◌, length, Result};
+ghost use Rattle.std.specs.Prelude.{◌≡◌, ◌⊎◌, ◌↔◌, ℕ, map, Some, None, Err, Result};
+ghost use Rattle.std.specs.String.{string_bytes};
 ghost use Rattle.tinymist_session.specs.declared.session.SessionFault.{SessionFault};
-ghost use Rattle.tinymist_session.specs.Run.{Answered, status_of, default_limits};
+ghost use Rattle.tinymist_session.specs.Session.{Limits};
+ghost use Rattle.tinymist_session.specs.Words.{limits_of as limits_in};
+ghost use Rattle.tinymist_session.specs.Run.{Answered, IsTold, status_of, fault_line, bad_words_line};
 
-use crate::session::{Limits, SessionFault, run_session};
-use crate::sink::ByteSink;
+use crate::limits::limits_of;
+use crate::session::{SessionFault, run_session};
+use crate::sink::{ByteSink, write_all};
 use crate::source::LineSource;
 use std::alloc::Global;
 use ty_cells::PathAccessModel;
-
-/// The limits of a session without words.
-pub const DEFAULT_LIMITS: Limits = Limits {
-    max_line: 16_777_216,
-    max_lines: 1_000_000,
-};
 
 /// The status where no memory was left.
 pub const OUT_OF_MEMORY: u8 = 5;
@@ -21,10 +19,14 @@ pub const OUT_OF_MEMORY: u8 = 5;
 /// The status of words of no stated form.
 pub const BAD_WORDS: u8 = 6;
 
+/// The fault line where no memory was left.
+const NO_MEMORY: &str = "out of memory\n";
+
 /// Runs the program with these words, which are those after its name, and answers its exit status.
 ///
-/// No words run a session, whose status is 0, 1 of a read fault, 2 of a write fault, 3 of a bad line, 4 of too
-/// many lines or 5 of want of memory. All other words have the status 6.
+/// No words, or `session` and then `--max-line N` and `--max-lines N` in any order and each at most once, run a
+/// session. Its status is 0, 1 of a read fault, 2 of a write fault, 3 of a bad line, 4 of too many lines or 5 of
+/// want of memory. All other words have the status 6. `faults` is told one line for each status but 0.
 pub fn run_program<S: LineSource, W: ByteSink, F: ByteSink, M: PathAccessModel>(
     alloc: Global,
     words: &[String],
@@ -33,18 +35,54 @@ pub fn run_program<S: LineSource, W: ByteSink, F: ByteSink, M: PathAccessModel>(
     faults: &mut F,
     disk: &mut M,
 ) -> u8
-    ensures bad_words { (result ≡ 6) ↔ (0 < length words.now) }
+    ensures bad_words { (result ≡ 6) ↔ (limits_in (map string_bytes words.now) ≡ None) }
     ensures untouched { result ≡ 6 → (source.new ≡ source.old) × (sink.new ≡ sink.old) × (disk.new ≡ disk.old) }
-    ensures session { length words.now ≡ 0 → (r : Result (Unit {0}) SessionFault) × (result ≡ status_of r)
-        × Answered default_limits (S.left source.old) (S.left source.new) (M.told disk.old) (W.taken sink.old) (W.taken sink.new) (W.flushed sink.new)
-        (S.faults source.old) (S.faults source.new) (W.faults sink.old) (W.faults sink.new) (W.dry sink.old) (W.dry sink.new) r }
-    ensures quiet { faults.new ≡ faults.old }
+    ensures refused { result ≡ 6 → IsTold bad_words_line (F.taken faults.old) (F.taken faults.new) (F.faults faults.old) (F.faults faults.new) (F.dry faults.old) (F.dry faults.new) }
+    ensures session { (limits : Limits) → limits_in (map string_bytes words.now) ≡ Some limits → (r : Result (Unit {0}) SessionFault) × (result ≡ status_of r)
+        × Answered limits (S.left source.old) (S.left source.new) (M.told disk.old) (W.taken sink.old) (W.taken sink.new) (W.flushed sink.new)
+        (S.faults source.old) (S.faults source.new) (W.faults sink.old) (W.faults sink.new) (W.dry sink.old) (W.dry sink.new) r
+        × IsTold (fault_line r) (F.taken faults.old) (F.taken faults.new) (F.faults faults.old) (F.faults faults.new) (F.dry faults.old) (F.dry faults.new) }
 {
-    let _ = &*faults;
-    if !words.is_empty() {
+    let Some(limits) = limits_of(words) else {
+        tell(faults, "bad words\n");
         return BAD_WORDS;
+    };
+    let answer = run_session(alloc, source, sink, disk, limits);
+    exit_status(tell_answer(alloc, faults, answer))
+}
+
+/// Tells the line of an answer, and gives the answer that was told: want of memory where the line found none.
+fn tell_answer<F: ByteSink>(
+    alloc: Global,
+    faults: &mut F,
+    answer: Result<(), SessionFault>,
+) -> Result<(), SessionFault>
+    ensures same { (result ≡ answer) ⊎ ((n : ℕ) × (answer ≡ Err (SessionFault.BadLine n)) × (result ≡ Err SessionFault.OutOfMemory)) }
+    ensures told { IsTold (fault_line result) (F.taken faults.old) (F.taken faults.new) (F.faults faults.old) (F.faults faults.new) (F.dry faults.old) (F.dry faults.new) }
+{
+    match answer {
+        Ok(()) => {}
+        Err(SessionFault::ReadFault) => tell(faults, "read fault\n"),
+        Err(SessionFault::WriteFault) => tell(faults, "write fault\n"),
+        Err(SessionFault::BadLine(n)) => match format!(in alloc; "bad line {n}\n") {
+            Ok(line) => tell(faults, &line),
+            Err(_) => {
+                tell(faults, NO_MEMORY);
+                return Err(SessionFault::OutOfMemory);
+            }
+        },
+        Err(SessionFault::Full) => tell(faults, "too many lines\n"),
+        Err(SessionFault::OutOfMemory) => tell(faults, NO_MEMORY),
     }
-    exit_status(run_session(alloc, source, sink, disk, DEFAULT_LIMITS))
+    answer
+}
+
+/// Tells a line, as far as the sink takes it.
+fn tell<F: ByteSink>(faults: &mut F, line: &str)
+    ensures { IsTold line.now (F.taken faults.old) (F.taken faults.new) (F.faults faults.old) (F.faults faults.new) (F.dry faults.old) (F.dry faults.new) }
+{
+    let _taken = write_all(faults, line.as_bytes());
+    let _flushed = faults.flush();
 }
 
 /// The exit status of a session's answer.

@@ -1,7 +1,8 @@
 //! Lines of a source, which is read a piece at a time.
-ghost use Rattle.std.specs.Prelude.{◌≡◌, ◌+◌, ◌<◌, ◌≤◌, ◌++◌, ◌∷◌, [], IfOk, OnOk, IfSome, IfNone, length, take, drop, slice_range, true};
+ghost use Rattle.std.specs.Prelude.{◌≡◌, ℕ, List, Some, ◌+◌, ◌-◌, ◌<◌, ◌≤◌, ◌++◌, ◌∷◌, [], IfOk, OnOk, IfSome, IfNone, length, take, drop, slice_range, true};
 ghost use Rattle.tinymist_session.specs.LineSource.{HasCause};
 ghost use Rattle.tinymist_session.specs.Lf.{IsLine};
+ghost use Rattle.tinymist_session.specs.Run.{TakenWithin};
 
 use crate::sink::{ByteSink, FlushStep};
 use crate::source::{LineSource, ReadStep};
@@ -71,6 +72,7 @@ pub(crate) struct LineReader {
     ghost ordered: { start ≤ end },
     ghost within: { end ≤ length piece.items },
     ghost room: { 0 < length piece.items },
+    ghost size: { length piece.items ≤ 65536 },
 }
 
 impl LineReader {
@@ -111,6 +113,8 @@ impl LineReader {
         max_line: u32,
     ) -> LineRead
         ensures bytes { ReadsLine max_line (ahead self.old (S.left source.old)) (ahead self.new (S.left source.new)) (line_of self.new) result }
+        ensures empty { result ≡ LineRead.ReadFailed → held_of self.new ≡ [] }
+        ensures bounded { (rest : List ℕ) → ahead self.old (S.left source.old) ≡ Some rest → TakenWithin (max_line + 65536) rest (S.left source.new) }
         ensures read_cause { HasCause (result ≡ LineRead.ReadFailed) (S.faults source.old) (S.faults source.new) }
         ensures taken { W.taken sink.new ≡ W.taken sink.old }
         ensures flush_cause { HasCause (result ≡ LineRead.FlushFailed) (W.faults sink.old) (W.faults sink.new) }
@@ -133,6 +137,7 @@ impl LineReader {
     /// The next part of the line: from what is held, else from the source.
     fn next_part<S: LineSource, W: ByteSink>(&mut self, source: &mut S, sink: &mut W) -> Part
         ensures bytes { GoesOn self.old self.new (S.left source.old) (S.left source.new) result }
+        ensures bounded { (rest : List ℕ) → S.left source.old ≡ Some rest → TakenWithin (65536 - length (held_of self.old)) rest (S.left source.new) }
         ensures read_cause { HasCause (result ≡ Part.ReadFailed) (S.faults source.old) (S.faults source.new) }
         ensures taken { W.taken sink.new ≡ W.taken sink.old }
         ensures flush_cause { HasCause (result ≡ Part.FlushFailed) (W.faults sink.old) (W.faults sink.new) }
@@ -156,6 +161,8 @@ impl LineReader {
         sink: &mut W,
     ) -> Filled
         ensures bytes { FindsByte (ahead self.old (S.left source.old)) (ahead self.new (S.left source.new)) result }
+        ensures empty { result ≡ Filled.ReadFailed → held_of self.new ≡ [] }
+        ensures bounded { (rest : List ℕ) → ahead self.old (S.left source.old) ≡ Some rest → TakenWithin 65536 rest (S.left source.new) }
         ensures read_cause { HasCause (result ≡ Filled.ReadFailed) (S.faults source.old) (S.faults source.new) }
         ensures taken { W.taken sink.new ≡ W.taken sink.old }
         ensures flush_cause { HasCause (result ≡ Filled.FlushFailed) (W.faults sink.old) (W.faults sink.new) }
@@ -180,6 +187,7 @@ impl LineReader {
     fn fill<S: LineSource, W: ByteSink>(&mut self, source: &mut S, sink: &mut W) -> Filled
         requires { held_of self.old ≡ [] }
         ensures bytes { Fills (S.left source.old) (S.left source.new) (held_of self.new) result }
+        ensures bounded { (rest : List ℕ) → S.left source.old ≡ Some rest → TakenWithin 65536 rest (S.left source.new) }
         ensures line { (self.new.gathered.items ≡ self.old.gathered.items) × (self.new.is_gathered ≡ self.old.is_gathered) }
         ensures read_cause { HasCause (result ≡ Filled.ReadFailed) (S.faults source.old) (S.faults source.new) }
         ensures taken { W.taken sink.new ≡ W.taken sink.old }

@@ -1,7 +1,6 @@
 //! Replies and their lines.
 ghost use Rattle.std.specs.Prelude.{◌≡◌, IfOk};
-ghost use Rattle.std.specs.String.{string_bytes};
-ghost use Rattle.tinymist_session.specs.Reply.{reply_line, fail_word};
+ghost use Rattle.tinymist_session.specs.Reply.{reply_line, fail_word, Contents};
 ghost use Rattle.ty_syntax.specs.Error.{refusal_of};
 ghost use Rattle.tinymist_session.specs.Said.{reply_of};
 
@@ -35,21 +34,38 @@ fn fail_text(error: &FileError) -> &'static str
 }
 
 /// The line of a reply: its fields parted by tabs, and ended by LF.
-pub(crate) fn line_of(alloc: Global, reply: Reply) -> Result<String, AllocError>
-    ensures { IfOk result (λ text. string_bytes text ≡ reply_line (reply_of reply)) }
+pub(crate) fn line_of(alloc: Global, reply: Reply) -> Result<Vec<u8>, AllocError>
+    ensures { IfOk result (λ line. line.items ≡ reply_line (reply_of reply)) }
 {
-    match reply {
+    let text = match reply {
         Reply::AtRevision(revision) => format!(in alloc; "ok\t{revision}\n"),
         Reply::ViewNumber(number) => format!(in alloc; "view\t{number}\n"),
-        Reply::Contents(bytes) => {
-            let digits = hex::encode(alloc, bytes.as_slice())?;
-            format!(in alloc; "bytes\t{digits}\n")
-        }
+        Reply::Contents(bytes) => return contents_line(alloc, bytes.as_slice()),
         Reply::Fails(error) => {
             let word = fail_text(&error);
             format!(in alloc; "fail\t{word}\n")
         }
         Reply::BadView => String::from_str(alloc, "err\tview\n"),
         Reply::BadId => String::from_str(alloc, "err\tid\n"),
-    }
+    };
+    Ok(text?.into_bytes())
+}
+
+/// The line of contents. Their digits are written once, where they stand in it.
+fn contents_line(alloc: Global, bytes: &[u8]) -> Result<Vec<u8>, AllocError>
+    ensures { IfOk result (λ line. line.items ≡ reply_line (Contents bytes.now)) }
+{
+    let Some(size) = bytes
+        .len()
+        .checked_mul(2)
+        .and_then(|digits| digits.checked_add(7))
+    else {
+        return Err(AllocError);
+    };
+    let mut line = Vec::with_capacity(alloc, size)?;
+    line.extend_from_slice(b"bytes\t")?;
+    line.resize(size - 1, b'0')?;
+    let _written = hex::encode_to_slice(bytes, &mut line[6..]);
+    line.push(b'\n')?;
+    Ok(line)
 }

@@ -11,14 +11,15 @@ ghost use Rattle.tinymist_session.specs.Machine.{State, step, opening};
 ghost use Rattle.tinymist_session.specs.Session.{end_of, replies_to};
 ghost use Rattle.tinymist_session.specs.Session as plain;
 ghost use Rattle.tinymist_session.specs.Shown.{IsShown};
-ghost use Rattle.tinymist_session.specs.Run.{EndFits, Written, UnlessCutOff};
-ghost use Rattle.tinymist_session.specs.Turns.{TakesFront, TurnReads, TurnSays, PassEnds, PassSays, ends, replies, limits_of};
+ghost use Rattle.tinymist_session.specs.Run.{EndFits, Written, UnlessCutOff, Received, replies_received, TakenWithin, most_bytes};
+ghost use Rattle.tinymist_session.specs.Turns.{TurnReads, TurnSays, PassEnds, PassSays, Broken, ends, replies, limits_of};
 
 use crate::command::read_command;
+use crate::limits::Limits;
 use crate::machine::Machine;
 use crate::reader::{Filled, LineRead, LineReader};
 use crate::reply::line_of;
-use crate::sink::{ByteSink, FlushStep, WriteStep};
+use crate::sink::{ByteSink, FlushStep, write_all};
 use crate::source::LineSource;
 use std::alloc::{AllocError, Global};
 use ty_cells::PathAccessModel;
@@ -57,15 +58,6 @@ impl From<AllocError> for SessionFault {
     fn from(_: AllocError) -> Self {
         SessionFault::OutOfMemory
     }
-}
-
-/// The limits of a session.
-#[derive(Clone, Copy, Debug, PartialEq, Eq)]
-pub struct Limits {
-    /// The most bytes of a line, without its LF.
-    pub max_line: u32,
-    /// The most lines.
-    pub max_lines: u32,
 }
 
 /// A session under way.
@@ -116,7 +108,7 @@ impl Session {
         };
         let reply = self.machine.step(disk, command)?;
         let line = line_of(self.alloc, reply)?;
-        if write_all(sink, line.as_bytes()) {
+        if write_all(sink, &line) {
             Ok(())
         } else {
             Err(SessionFault::WriteFault)
@@ -138,6 +130,9 @@ impl Session {
         ensures ends { (rest : List ℕ) → ahead self.old.reader (S.left source.old) ≡ Some rest → PassEnds (limits_of limits) n rest (ahead self.new.reader (S.left source.new)) result }
         ensures says { (rest : List ℕ) (told : Told) (s : State) → ahead self.old.reader (S.left source.old) ≡ Some rest → M.told disk.old ≡ Some told → IsShown self.old.machine.live self.old.machine.views.items self.old.machine.tags s
             → PassSays (limits_of limits) told s n rest (ahead self.new.reader (S.left source.new)) (W.taken sink.old) (W.taken sink.new) self.new.machine.live self.new.machine.views.items self.new.machine.tags result }
+        ensures received { (rest : List ℕ) → ahead self.old.reader (S.left source.old) ≡ Some rest → IsErrOf result SessionFault.ReadFault → Broken (limits_of limits) rest (S.left source.new) }
+        ensures quiet { IsErrOf result SessionFault.ReadFault → W.taken sink.new ≡ W.taken sink.old }
+        ensures bounded { (rest : List ℕ) → ahead self.old.reader (S.left source.old) ≡ Some rest → TakenWithin (limits.max_line + 65536) rest (S.left source.new) }
         ensures left { (told : Told) → M.told disk.old ≡ Some told → IsFixed told → M.told disk.new ≡ Some told }
         ensures at_end { result ≡ Ok false → IsAtEnd (ahead self.new.reader (S.left source.new)) }
         ensures revision { self.new.machine.live.held.revision ≤ self.old.machine.live.held.revision + 1 }
@@ -173,6 +168,8 @@ impl Session {
     ) -> Result<(), SessionFault>
         ensures ends { (limits : plain.Limits) (rest : List ℕ) → ahead self.old.reader (S.left source.old) ≡ Some rest → EndFits (ends limits limits.max_lines rest) result }
         ensures silent { (limits : plain.Limits) (told : Told) (s : State) (rest : List ℕ) → ahead self.old.reader (S.left source.old) ≡ Some rest → UnlessCutOff result (replies limits told s limits.max_lines rest ≡ []) }
+        ensures received { (rest : List ℕ) → ahead self.old.reader (S.left source.old) ≡ Some rest → IsErrOf result SessionFault.ReadFault → S.left source.new ≡ Some rest }
+        ensures bounded { (rest : List ℕ) → ahead self.old.reader (S.left source.old) ≡ Some rest → TakenWithin 65536 rest (S.left source.new) }
         ensures taken { W.taken sink.new ≡ W.taken sink.old }
         ensures at_end { OnOk result (IsAtEnd (ahead self.new.reader (S.left source.new))) }
         ensures read_cause { HasCause (IsErrOf result SessionFault.ReadFault) (S.faults source.old) (S.faults source.new) }
@@ -203,6 +200,10 @@ impl Session {
         ensures ends { (input : List ℕ) → S.left source.old ≡ Some input → EndFits (end_of (limits_of limits) input) result }
         ensures written { (input : List ℕ) (told : Told) → S.left source.old ≡ Some input → M.told disk.old ≡ Some told → IsFixed told
             → Written (replies_to (limits_of limits) told input) (W.taken sink.old) (W.taken sink.new) result }
+        ensures received { (input : List ℕ) → S.left source.old ≡ Some input → IsErrOf result SessionFault.ReadFault → Received (limits_of limits) input (S.left source.new) }
+        ensures answered { (input : List ℕ) (told : Told) → S.left source.old ≡ Some input → M.told disk.old ≡ Some told → IsFixed told → IsErrOf result SessionFault.ReadFault
+            → (lines : Received (limits_of limits) input (S.left source.new)) × (W.taken sink.new ≡ append_known (W.taken sink.old) (replies_received (limits_of limits) told input (S.left source.new) lines)) }
+        ensures bounded { (input : List ℕ) → S.left source.old ≡ Some input → TakenWithin (most_bytes (limits_of limits)) input (S.left source.new) }
         ensures read { OnOk result (IsAtEnd (S.left source.new)) }
         ensures read_cause { IsErrOf result SessionFault.ReadFault → Rose (S.faults source.old) (S.faults source.new) }
         ensures faults { W.faults sink.old ≤ W.faults sink.new }
@@ -218,25 +219,6 @@ impl Session {
         }
         self.close(source, sink)
     }
-}
-
-/// Offers a piece until the sink has taken all of it, has failed or took nothing.
-fn write_all<W: ByteSink>(sink: &mut W, piece: &[u8]) -> bool
-    ensures whole { result ≡ true → W.taken sink.new ≡ append_known (W.taken sink.old) piece.now }
-    ensures front { TakesFront (W.taken sink.old) (W.taken sink.new) piece.now }
-    ensures faults { W.faults sink.old ≤ W.faults sink.new }
-    ensures dry { W.dry sink.old ≤ W.dry sink.new }
-    ensures cause { result ≡ false → Rose (W.faults sink.old) (W.faults sink.new) ⊎ Rose (W.dry sink.old) (W.dry sink.new) }
-{
-    let mut at = 0;
-    while at < piece.len() {
-        match sink.write(&piece[at..]) {
-            WriteStep::Took(0) => return false,
-            WriteStep::Took(n) => at += n,
-            WriteStep::Failed => return false,
-        }
-    }
-    true
 }
 
 /// Flushes what was written, whatever the answer. A failure is one where none came before.
@@ -275,6 +257,10 @@ pub fn run_session<S: LineSource, W: ByteSink, M: PathAccessModel>(
     ensures ends { (input : List ℕ) → S.left source.old ≡ Some input → EndFits (end_of (limits_of limits) input) result }
     ensures written { (input : List ℕ) (told : Told) → S.left source.old ≡ Some input → M.told disk.old ≡ Some told → IsFixed told
         → Written (replies_to (limits_of limits) told input) (W.taken sink.old) (W.taken sink.new) result }
+    ensures received { (input : List ℕ) → S.left source.old ≡ Some input → IsErrOf result SessionFault.ReadFault → Received (limits_of limits) input (S.left source.new) }
+    ensures answered { (input : List ℕ) (told : Told) → S.left source.old ≡ Some input → M.told disk.old ≡ Some told → IsFixed told → IsErrOf result SessionFault.ReadFault
+        → (lines : Received (limits_of limits) input (S.left source.new)) × (W.taken sink.new ≡ append_known (W.taken sink.old) (replies_received (limits_of limits) told input (S.left source.new) lines)) }
+    ensures bounded { (input : List ℕ) → S.left source.old ≡ Some input → TakenWithin (most_bytes (limits_of limits)) input (S.left source.new) }
     ensures read { OnOk result (IsAtEnd (S.left source.new)) }
     ensures flushed { UnlessCutOff result (IsTrue (W.flushed sink.new)) }
     ensures read_cause { IsErrOf result SessionFault.ReadFault → Rose (S.faults source.old) (S.faults source.new) }

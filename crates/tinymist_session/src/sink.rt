@@ -1,5 +1,8 @@
 //! Sinks for bytes: where the replies of a session go.
-ghost use Rattle.std.specs.Prelude.{◌≡◌, ◌≤◌, ℕ, List, Option, Bool};
+ghost use Rattle.std.specs.Prelude.{◌≡◌, ◌⊎◌, ◌≤◌, ℕ, List, Option, Bool, true, false};
+ghost use Rattle.std.specs.Io.KnownBytes.{append_known};
+ghost use Rattle.ty_model.specs.Faults.{Rose};
+ghost use Rattle.tinymist_session.specs.ByteSink.{TakesFront};
 ghost use Rattle.tinymist_session.specs.LineSource.{HasCause};
 ghost use Rattle.tinymist_session.specs.ByteSink.{Writes, IsFailedWrite, IsDry, flushed_by_write, flushed_by, IsFailedFlush};
 
@@ -48,4 +51,23 @@ pub trait ByteSink {
         ensures cause { HasCause (IsFailedFlush result) (faults self.old) (faults self.new) }
         ensures thirst { dry self.old ≤ dry self.new }
         ensures flushed { flushed self.new ≡ flushed_by (flushed self.old) result };
+}
+
+/// Offers a piece until the sink has taken all of it, failed, or took nothing.
+pub(crate) fn write_all<W: ByteSink>(sink: &mut W, piece: &[u8]) -> bool
+    ensures whole { result ≡ true → W.taken sink.new ≡ append_known (W.taken sink.old) piece.now }
+    ensures front { TakesFront (W.taken sink.old) (W.taken sink.new) piece.now }
+    ensures faults { W.faults sink.old ≤ W.faults sink.new }
+    ensures dry { W.dry sink.old ≤ W.dry sink.new }
+    ensures cause { result ≡ false → Rose (W.faults sink.old) (W.faults sink.new) ⊎ Rose (W.dry sink.old) (W.dry sink.new) }
+{
+    let mut at = 0;
+    while at < piece.len() {
+        match sink.write(&piece[at..]) {
+            WriteStep::Took(0) => return false,
+            WriteStep::Took(n) => at += n,
+            WriteStep::Failed => return false,
+        }
+    }
+    true
 }

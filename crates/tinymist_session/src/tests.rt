@@ -155,23 +155,91 @@ fn a_source_that_fails(rt: HostRuntime) -> Result<(), Fail> {
     Ok(())
 }
 
+/// A session of three lines under these words: its status, and what it was told and said.
+fn three_lines(
+    alloc: Global,
+    words: &[&str],
+    faults: &mut MemorySink,
+) -> Result<(u8, MemorySink), Fail> {
+    let mut source = source_of(alloc, b"snapshot\nsnapshot\nsnapshot\n", Vec::new(alloc))?;
+    let mut sink = empty_sink(alloc);
+    let mut disk = empty_disk(alloc);
+    let mut owned = Vec::new(alloc);
+    for word in words {
+        owned.push(String::from_str(alloc, word)?)?;
+    }
+    let status = run_program(alloc, &owned, &mut source, &mut sink, faults, &mut disk);
+    Ok((status, sink))
+}
+
 #[test]
-fn words_of_no_form(rt: HostRuntime) -> Result<(), Fail> {
-    let mut source = source_of(rt.alloc(), b"snapshot\n", Vec::new(rt.alloc()))?;
-    let mut sink = empty_sink(rt.alloc());
-    let mut faults = empty_sink(rt.alloc());
-    let mut disk = empty_disk(rt.alloc());
-    let words = vec![in rt.alloc(); String::from_str(rt.alloc(), "")?]?;
-    let status = run_program(
-        rt.alloc(),
-        &words,
-        &mut source,
-        &mut sink,
-        &mut faults,
-        &mut disk,
-    );
-    assert_eq!(rt; status, 6);
-    assert!(rt; sink.bytes().is_empty());
+fn words_and_fault_lines(rt: HostRuntime) -> Result<(), Fail> {
+    let all = "view\t1\nview\t2\nview\t3\n";
+    let rows: [(&[&str], u8, &str, &str); 20] = [
+        (&[], 0, all, ""),
+        (&["session"], 0, all, ""),
+        (&["session", "--max-lines", "3"], 0, all, ""),
+        (
+            &["session", "--max-lines", "2"],
+            4,
+            "view\t1\nview\t2\n",
+            "too many lines\n",
+        ),
+        (&["session", "--max-lines", "0"], 4, "", "too many lines\n"),
+        (&["session", "--max-line", "8"], 0, all, ""),
+        (&["session", "--max-line", "7"], 3, "", "bad line 1\n"),
+        (
+            &["session", "--max-line", "7", "--max-lines", "0"],
+            4,
+            "",
+            "too many lines\n",
+        ),
+        (
+            &["session", "--max-lines", "3", "--max-line", "8"],
+            0,
+            all,
+            "",
+        ),
+        (&["session", "--max-line", "4294967295"], 0, all, ""),
+        (
+            &["session", "--max-line", "4294967296"],
+            6,
+            "",
+            "bad words\n",
+        ),
+        (&["session", "--max-line", "08"], 6, "", "bad words\n"),
+        (&["session", "--max-line", "-1"], 6, "", "bad words\n"),
+        (&["session", "--max-line", ""], 6, "", "bad words\n"),
+        (&["session", "--max-line"], 6, "", "bad words\n"),
+        (
+            &["session", "--max-line", "8", "--max-line", "8"],
+            6,
+            "",
+            "bad words\n",
+        ),
+        (&["session", "--max-bytes", "8"], 6, "", "bad words\n"),
+        (&["session", "session"], 6, "", "bad words\n"),
+        (&["--max-line", "8"], 6, "", "bad words\n"),
+        (&[""], 6, "", "bad words\n"),
+    ];
+    for (words, status, replies, line) in rows {
+        let mut faults = empty_sink(rt.alloc());
+        let (ended, sink) = three_lines(rt.alloc(), words, &mut faults)?;
+        assert_eq!(rt; ended, status, "{words:?}");
+        assert_eq!(rt; sink.bytes(), replies.as_bytes(), "{words:?}");
+        assert_eq!(rt; faults.bytes(), line.as_bytes(), "{words:?}");
+    }
+    Ok(())
+}
+
+// The sink of faults takes three bytes, and then nothing: the status stays.
+#[test]
+fn a_fault_line_that_stops(rt: HostRuntime) -> Result<(), Fail> {
+    let most = vec![in rt.alloc(); 3, 0]?;
+    let mut faults = MemorySink::new(Vec::new(rt.alloc()), most, Vec::new(rt.alloc()));
+    let (status, _sink) = three_lines(rt.alloc(), &["session", "--max-line", "7"], &mut faults)?;
+    assert_eq!(rt; status, 3);
+    assert_eq!(rt; faults.bytes(), b"bad".as_slice());
     Ok(())
 }
 
@@ -194,7 +262,61 @@ fn limits_of_lines(rt: HostRuntime) -> Result<(), Fail> {
         let mut sink = empty_sink(rt.alloc());
         let mut disk = empty_disk(rt.alloc());
         let ended = run_session(rt.alloc(), &mut source, &mut sink, &mut disk, limits);
-        assert_eq!(rt; ended, answer);
+        assert_eq!(rt; ended, answer, "{max_line} {max_lines}");
     }
+    Ok(())
+}
+
+/// A session with one line longer than a piece, and its replies: `large` bytes are mapped and read.
+fn long_session(alloc: Global, large: usize) -> Result<(Vec<u8>, Vec<u8>), Fail> {
+    let mut input = b"map\t0\t/w/a\t=61\nmap\t0\t/w/b\t=".to_vec(alloc)?;
+    let mut replies = b"ok\t3\nok\t4\nview\t1\nbytes\t".to_vec(alloc)?;
+    for _byte in 0..large {
+        input.extend_from_slice(b"7a")?;
+        replies.extend_from_slice(b"7a")?;
+    }
+    input.extend_from_slice(b"\nsnapshot\nread\t1\t/w/b\nread\t1\t/w/a")?;
+    replies.extend_from_slice(b"\nbytes\t61\n")?;
+    Ok((input, replies))
+}
+
+#[test]
+fn pieces_of_any_size(rt: HostRuntime) -> Result<(), Fail> {
+    let (input, replies) = long_session(rt.alloc(), 40_000)?;
+    let rows: [(usize, usize); 8] = [
+        (1, 1),
+        (2, 3),
+        (7, 100_000),
+        (65_535, 1),
+        (65_536, 3),
+        (65_537, 100_000),
+        (80_044, 3),
+        (1, 100_000),
+    ];
+    for (piece, most) in rows {
+        let sizes = vec![in rt.alloc(); piece; input.len()]?;
+        let mut source = MemorySource::new(input.to_vec(rt.alloc())?, sizes, Vec::new(rt.alloc()));
+        let takes = vec![in rt.alloc(); most; replies.len()]?;
+        let mut sink = MemorySink::new(Vec::new(rt.alloc()), takes, Vec::new(rt.alloc()));
+        assert_eq!(rt;
+            status_of(rt.alloc(), &mut source, &mut sink)?,
+            0,
+            "{piece} {most}"
+        );
+        assert!(rt; sink.bytes() == replies.as_slice(), "{piece} {most}");
+    }
+    Ok(())
+}
+
+// Replies to the lines of a piece are written before the next read, which fails.
+#[test]
+fn replies_before_a_read_fault(rt: HostRuntime) -> Result<(), Fail> {
+    let input = b"snapshot\nsnapshot\nsnap".to_vec(rt.alloc())?;
+    let fails = vec![in rt.alloc(); 2]?;
+    let mut source = MemorySource::new(input, Vec::new(rt.alloc()), fails);
+    let mut sink = empty_sink(rt.alloc());
+    assert_eq!(rt; status_of(rt.alloc(), &mut source, &mut sink)?, 1);
+    assert_eq!(rt; sink.bytes(), b"view\t1\nview\t2\n".as_slice());
+    assert!(rt; sink.is_flushed());
     Ok(())
 }

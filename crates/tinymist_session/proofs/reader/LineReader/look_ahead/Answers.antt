@@ -1,6 +1,8 @@
 use Rattle.std.proofs.Common.{◌≡◌, ◌-◌, ◌<◌, ◌≤◌, length, take, drop, refl, arith, length-take, length-drop}
 use Rattle.tinymist_session.specs.LineReader.{held_of}
 use Rattle.tinymist_session.proofs.Known.{fills_finds, held_none}
+use Rattle.tinymist_session.proofs.Bounds.{held_within, taken_now, taken_fresh}
+use Rattle.tinymist_session.specs.LineReader.{ahead}
 use Rattle.tinymist_session.proofs.reader.LineReader.look_ahead.Goals as goal
 
 pub returns-then-self-clause-bytes : goal.returns-then-self-clause-bytes
@@ -12,3 +14,14 @@ pub returns-clause-bytes : goal.returns-clause-bytes
 returns-clause-bytes g c =
     let r = c.args.self.now in
     fills_finds (held_of r) (held_of c.fill.new.self) (g.S.LineSource.left c.args.source.now) (g.S.LineSource.left c.fill.new.source) c.fill.result (held_none r.piece.items r.from r.to (omega arith)) c.fill.ensures.bytes
+
+pub returns-then-self-clause-bounded : goal.returns-then-self-clause-bounded
+returns-then-self-clause-bounded g c = λ rest is.
+    let r = c.args.self.now in
+    let left = g.S.LineSource.left c.args.source.now in
+    taken_now (ahead r left) left left rest is 65536 (held_of r) refl (held_within r.piece.items r.from r.to r.size)
+
+pub returns-clause-bounded : goal.returns-clause-bounded
+returns-clause-bounded g c = λ rest is.
+    let r = c.args.self.now in
+    taken_fresh (held_of r) (g.S.LineSource.left c.args.source.now) (g.S.LineSource.left c.fill.new.source) rest (held_none r.piece.items r.from r.to (omega arith)) is c.fill.ensures.bounded

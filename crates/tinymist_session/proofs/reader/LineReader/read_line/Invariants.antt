@@ -9,6 +9,7 @@ invariant-loop-self g l = record {
   read : ahead l.fn.self (g.S.LineSource.left l.fn.source) ≡ prepend_known (l.self.gathered.items ++ held_of l.self) (g.S.LineSource.left l.source);
   plain : IsLine l.self.gathered.items;
   gathered : l.self.is_gathered ≡ true;
+  within : length l.self.gathered.items + length (held_of l.self) ≤ l.fn.max_line + 65536;
   reads : g.S.LineSource.faults l.fn.source ≤ g.S.LineSource.faults l.source;
   taken : g.W.ByteSink.taken l.sink ≡ g.W.ByteSink.taken l.fn.sink;
   faults : g.W.ByteSink.faults l.fn.sink ≤ g.W.ByteSink.faults l.sink;

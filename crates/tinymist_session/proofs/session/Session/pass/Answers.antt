@@ -9,7 +9,7 @@ use Rattle.tinymist_session.specs.Run.{Written}
 use Rattle.tinymist_session.specs.LineReader.{ahead, line_of}
 use Rattle.tinymist_session.specs.Turns.{limits_of, ends, replies}
 use Rattle.tinymist_session.specs.declared.reader.LineReader.{LineReader}
-use Rattle.tinymist_session.proofs.Lines.{end_nothing, commands_nothing}
+use Rattle.tinymist_session.proofs.Lines.{end_nothing, commands_nothing, is_good}
 use Rattle.tinymist_session.proofs.Passes.{known_left, some_command, ends_ok, ends_err, replies_ok, written_err, first_lf, first_last, long_ends, long_replies, long_read, nothing_more, at_end}
 use Rattle.tinymist_session.proofs.session.Session.pass.Goals as goal
 
@@ -22,8 +22,12 @@ returns-in-Ok-clause-ends g c = λ rest is_left.
     let b = c.in-Line.ensures.bytes in
     let known = known_left before (ahead r left) (line ++ 10 ∷ []) rest b.0 is_left in
     let first = first_lf line known.0 rest b.1 known.2 in
-    let cmd = some_command (command_of line) c.in-Ok.ensures.reads in
-    (known.0, ap (λ (x : LineReader). ahead x left) c.in-Ok.ensures.reader ∙ known.1, ends_ok (limits_of c.args.limits) c.args.n line rest (lines_of known.0) c.requires.room b.2 first cmd.0 cmd.1)
+    let cmd = some_command (command_of line) c.in-Ok.ensures.reads in (
+      known.0,
+      ap (λ (x : LineReader). ahead x left) c.in-Ok.ensures.reader ∙ known.1,
+      ends_ok (limits_of c.args.limits) c.args.n line rest (lines_of known.0) c.requires.room b.2 first cmd.0 cmd.1,
+      record { line = line; command = cmd.0; cut = known.2; whole = b.1; short = b.2; good = is_good (limits_of c.args.limits) line b.2 ∙ cmd.1 },
+    )
 
 pub returns-in-Ok-clause-says : goal.returns-in-Ok-clause-says
 returns-in-Ok-clause-says g c = λ rest told s is_left is shown.
@@ -44,6 +48,9 @@ returns-in-Ok-clause-says g c = λ rest told s is_left is shown.
       shown = says.0;
       taken = says.1 ∙ ap (λ k. append_known k (reply_line (step s told cmd.0).reply)) c.read_line.ensures.taken;
       goes_on = replies_ok (limits_of c.args.limits) c.args.n line rest (lines_of known.0) c.requires.room b.2 first told s cmd.0 cmd.1;
+      first = record { line = line; command = cmd.0; cut = known.2; whole = b.1; short = b.2; good = is_good (limits_of c.args.limits) line b.2 ∙ cmd.1 };
+      stepped = refl;
+      said = refl;
     }
 
 pub returns-in-Err-clause-ends : goal.returns-in-Err-clause-ends

@@ -1,5 +1,6 @@
-use Rattle.std.proofs.Common.{◌≡◌, ◌+◌, ◌≤◌, ◌++◌, [], List, ℕ, Some, Ok, Err, Bool, refl, sym, ap, subst, ◌∙◌, arith}
+use Rattle.std.proofs.Common.{◌≡◌, ◌+◌, ◌≤◌, ◌++◌, ◌∷◌, [], List, ℕ, Some, Ok, Err, Bool, refl, sym, ap, subst, ◌∙◌, arith}
 use Rattle.std.proofs.lemmas.Result.{IfOk-weaker}
+use Rattle.std.specs.Io.KnownBytes.{append_known}
 use Rattle.tinymist_session.specs.Machine.{opening}
 use Rattle.tinymist_session.specs.LineReader.{ahead, held_of}
 use Rattle.tinymist_session.specs.Session.{end_of, replies_to}
@@ -7,7 +8,9 @@ use Rattle.tinymist_session.specs.Run.{EndFits, Written, UnlessCutOff}
 use Rattle.tinymist_session.specs.Turns.{limits_of, ends, replies, PassEnds, PassSays}
 use Rattle.tinymist_session.proofs.Known.{start_ahead, end_ahead}
 use Rattle.tinymist_session.proofs.Lines.{end_start}
-use Rattle.tinymist_session.proofs.Passes.{at_start, goes_on, written_after, written_quiet, fits_after, replies_start}
+use Rattle.tinymist_session.proofs.Passes.{written_after, written_quiet, fits_after, replies_start}
+use Rattle.tinymist_session.proofs.Fronts.{front_start, front_push, front_broken, front_last, broken_answered, last_answered, front_bounded, front_bounded_last}
+use Rattle.tinymist_session.proofs.Runs.{at_start, goes_on, fault_again}
 use Rattle.tinymist_session.proofs.session.Session.run.Goals as goal
 
 pub returns-in-Ok-false-clause-ends : goal.returns-in-Ok-false-clause-ends
@@ -41,7 +44,7 @@ loop-n-preserved g c = record {
   ahead_is = λ input is.
       let a = c.loop-n.invariant.ahead_is input is in
       let e = subst (λ (b : Bool). PassEnds (limits_of c.args.limits) c.loop-n.n a.rest (ahead c.pass.new.self.reader (g.S.LineSource.left c.pass.new.source)) (Ok b)) c.in-Ok-true.field-0-test (c.in-Ok-true.ensures.ends a.rest a.left_is) in
-      record { rest = e.0; left_is = e.1; same_end = a.same_end ∙ e.2 };
+      record { rest = e.0; lines = a.lines ++ e.3.line ∷ []; front = front_push (limits_of c.args.limits) input c.loop-n.n a.lines a.rest a.front e.0 e.3; left_is = e.1; same_end = a.same_end ∙ e.2 };
   pending = λ input told is disk fixed.
       let p = c.loop-n.invariant.pending input told is disk fixed in
       goes_on (limits_of c.args.limits) told input c.loop-n.n (ahead c.loop-n.self.reader (g.S.LineSource.left c.loop-n.source)) (ahead c.pass.new.self.reader (g.S.LineSource.left c.pass.new.source)) (g.M.PathAccessModel.told c.loop-n.disk) (g.M.PathAccessModel.told c.pass.new.disk) (g.W.ByteSink.taken c.args.sink.now) (g.W.ByteSink.taken c.loop-n.sink) (g.W.ByteSink.taken c.pass.new.sink)
@@ -74,7 +77,7 @@ returns-clause-read g c = IfOk-weaker c.close.result _ _ (λ _ h. end_ahead (hel
 
 pub loop-n-init : goal.loop-n-init
 loop-n-init g c = record {
-  ahead_is = λ input is. record { rest = input; left_is = start_ahead (held_of c.args.self.now.reader) (g.S.LineSource.left c.args.source.now) c.requires.held ∙ is; same_end = refl };
+  ahead_is = λ input is. record { rest = input; lines = []; front = front_start (limits_of c.args.limits) input; left_is = start_ahead (held_of c.args.self.now.reader) (g.S.LineSource.left c.args.source.now) c.requires.held ∙ is; same_end = refl };
   pending = λ input told is disk fixed. at_start (limits_of c.args.limits) told input 0 (ahead c.args.self.now.reader (g.S.LineSource.left c.args.source.now)) (g.M.PathAccessModel.told c.args.disk.now) (g.W.ByteSink.taken c.args.sink.now) c.args.self.now.machine.live c.args.self.now.machine.views.items c.args.self.now.machine.tags (start_ahead (held_of c.args.self.now.reader) (g.S.LineSource.left c.args.source.now) c.requires.held ∙ is) disk c.requires.shown;
   revision = omega (arith, c.requires.revision);
   space = omega (arith, c.requires.space);
@@ -82,3 +85,43 @@ loop-n-init g c = record {
   faults = omega arith;
   dry = omega arith;
 }
+
+-- ---- a read fault, and how much was taken
+
+pub returns-in-Err-clause-received : goal.returns-in-Err-clause-received
+returns-in-Err-clause-received g c = λ input is fault.
+    let a = c.loop-n.invariant.ahead_is input is in
+    front_broken (limits_of c.args.limits) input c.loop-n.n a.lines a.rest a.front (g.S.LineSource.left c.pass.new.source) (omega arith) (c.in-Err.ensures.received a.rest a.left_is (fault_again c.in-Err.fault (Err c.in-Err.fault) (Err c.in-Err.fault) refl refl fault))
+
+pub returns-in-Err-clause-answered : goal.returns-in-Err-clause-answered
+returns-in-Err-clause-answered g c = λ input told is disk fixed fault.
+    let p = c.loop-n.invariant.pending input told is disk fixed in
+    let again = fault_again c.in-Err.fault (Err c.in-Err.fault) (Err c.in-Err.fault) refl refl fault in
+    broken_answered (limits_of c.args.limits) input c.loop-n.n p.lines p.rest p.front told (g.W.ByteSink.taken c.args.sink.now) (g.W.ByteSink.taken c.pass.new.sink) (g.S.LineSource.left c.pass.new.source)
+    (c.in-Err.ensures.quiet again ∙ p.taken ∙ ap (append_known (g.W.ByteSink.taken c.args.sink.now)) p.done_is) (omega arith) (c.in-Err.ensures.received p.rest p.left_is again)
+
+pub returns-in-Err-clause-bounded : goal.returns-in-Err-clause-bounded
+returns-in-Err-clause-bounded g c = λ input is.
+    let a = c.loop-n.invariant.ahead_is input is in
+    front_bounded (limits_of c.args.limits) input c.loop-n.n a.lines a.rest a.front (g.S.LineSource.left c.pass.new.source) (omega arith) (c.in-Err.ensures.bounded a.rest a.left_is)
+
+pub returns-in-Ok-false-clause-bounded : goal.returns-in-Ok-false-clause-bounded
+returns-in-Ok-false-clause-bounded g c = λ input is.
+    let a = c.loop-n.invariant.ahead_is input is in
+    front_bounded (limits_of c.args.limits) input c.loop-n.n a.lines a.rest a.front (g.S.LineSource.left c.pass.new.source) (omega arith) (c.in-Ok-false.ensures.bounded a.rest a.left_is)
+
+pub returns-clause-received : goal.returns-clause-received
+returns-clause-received g c = λ input is fault.
+    let a = c.loop-n.invariant.ahead_is input is in
+    front_last (limits_of c.args.limits) input c.loop-n.n a.lines a.rest a.front (g.S.LineSource.left c.close.new.source) (omega arith) (c.close.ensures.received a.rest a.left_is fault)
+
+pub returns-clause-answered : goal.returns-clause-answered
+returns-clause-answered g c = λ input told is disk fixed fault.
+    let p = c.loop-n.invariant.pending input told is disk fixed in
+    last_answered (limits_of c.args.limits) input c.loop-n.n p.lines p.rest p.front told (g.W.ByteSink.taken c.args.sink.now) (g.W.ByteSink.taken c.close.new.sink) (g.S.LineSource.left c.close.new.source)
+    (c.close.ensures.taken ∙ p.taken ∙ ap (append_known (g.W.ByteSink.taken c.args.sink.now)) p.done_is) (omega arith) (c.close.ensures.received p.rest p.left_is fault)
+
+pub returns-clause-bounded : goal.returns-clause-bounded
+returns-clause-bounded g c = λ input is.
+    let a = c.loop-n.invariant.ahead_is input is in
+    front_bounded_last (limits_of c.args.limits) input c.loop-n.n a.lines a.rest a.front (g.S.LineSource.left c.close.new.source) (omega arith) (c.close.ensures.bounded a.rest a.left_is)

@@ -24,5 +24,5 @@ returns-then-write_all-clause-says g c = λ told s command is shown reads.
     let said = some_said c.in-Some.command _ _ command (rw c.in-Some.is at c.in_ok-command.ensures) c.line.ensures reads in (
       subst (λ (x : Command). IsShown c.step.new.self.live c.step.new.self.views.items c.step.new.self.tags (step s told x).state) said (c.in_ok-reply.ensures.state told s is shown),
       c.write_all.ensures.whole c.if-write_all.true
-          ∙ ap (append_known (g.W.ByteSink.taken c.args.sink.now)) (c.as_bytes.ensures.value ∙ c.in_ok-line.ensures ∙ ap reply_line (c.in_ok-reply.ensures.reply told s is shown) ∙ ap (λ (x : Command). reply_line (step s told x).reply) said),
+          ∙ ap (append_known (g.W.ByteSink.taken c.args.sink.now)) (c.deref.ensures.value ∙ c.in_ok-line.ensures ∙ ap reply_line (c.in_ok-reply.ensures.reply told s is shown) ∙ ap (λ (x : Command). reply_line (step s told x).reply) said),
     )

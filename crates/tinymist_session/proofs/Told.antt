@@ -1,0 +1,54 @@
+-- What is told of an answer, and an answer that gives way to want of memory.
+use Rattle.std.proofs.Common.{◌≡◌, ◌⊎◌, ℕ, ◌+◌, ◌-◌, ◌^◌, ◌≤◌, min, Bool, true, false, List, [], refl, sym, ap, subst, ◌∙◌, arith, inl, inr, append-nil, Option, Some, Result, Ok, Err}
+use Rattle.std.specs.Io.KnownBytes.{append_known}
+use Rattle.ty_model.specs.Disk.{Told}
+use Rattle.ty_model.specs.Faults.{Rose}
+use Rattle.tinymist_session.specs.ByteSink.{TakesFront}
+use Rattle.tinymist_session.specs.Session.{Limits, replies_to}
+use Rattle.tinymist_session.specs.declared.session.SessionFault.{SessionFault}
+use Rattle.tinymist_session.specs.declared.session.SessionFault.TheVariants.{ReadFault, WriteFault, BadLine, OutOfMemory}
+use Rattle.tinymist_session.specs.Run.{Answered, Written, IsTold}
+use Rattle.tinymist_session.proofs.Passes.{front, some_written}
+
+later : (a b c : ℕ) → Rose a b → b ≤ c → Rose a c
+later a b c h k = omega (arith, h, k)
+
+-- a line that was offered until the sink had taken it or had failed
+pub is_told : (line piece : List ℕ) (old mid new : Option (List ℕ)) (faults mid_faults faults' dry mid_dry dry' : ℕ) (all : Bool) → piece ≡ line
+    → (all ≡ true → mid ≡ append_known old piece) → TakesFront old mid piece → (all ≡ false → Rose faults mid_faults ⊎ Rose dry mid_dry)
+    → new ≡ mid → mid_faults ≤ faults' → mid_dry ≤ dry' → IsTold line old new faults faults' dry dry'
+is_told line piece old mid new faults mid_faults faults' dry mid_dry dry' all same whole some cause e f d = record {
+  front = rw e (front old mid piece [] line some (sym same ∙ sym (append-nil piece)));
+  whole = rw e (told all refl);
+}
+  where
+    told : (b : Bool) → all ≡ b → (mid ≡ append_known old line) ⊎ (Rose faults faults' ⊎ Rose dry dry')
+    told true is = inl (whole is ∙ ap (append_known old) same)
+    told false is = elim (cause is) [ inl h ↦ inr (inl (later faults mid_faults faults' h f)) | inr h ↦ inr (inr (later dry mid_dry dry' h d)) ]
+
+pub same_limits : (a b : Limits) (read : Option Limits) → Some a ≡ read → read ≡ Some b → a ≡ b
+same_limits a b read e f = cc
+
+-- a flush leaves a read fault
+pub read_kept : (r r' : Result (Unit {0}) SessionFault) → (r' ≡ r) ⊎ (r' ≡ Err WriteFault) → r' ≡ Err ReadFault → r ≡ Err ReadFault
+read_kept r r' same e = elim same [ inl is ↦ cc | inr is ↦ absurd (cc) ]
+
+module _ (limits : Limits) (left left' : Option (List ℕ)) (disk : Option Told) (taken taken' : Option (List ℕ)) (flushed' : Bool) (reads reads' faults faults' dry dry' : ℕ) where
+  abbrev Of : Result (Unit {0}) SessionFault → Type 0
+  Of r = Answered limits left left' disk taken taken' flushed' reads reads' faults faults' dry dry' r
+
+  no_memory : (n : ℕ) → Of (Err (BadLine n)) → Of (Err OutOfMemory)
+  no_memory n a = record {
+    ends = λ input is. tt;
+    written = λ input told is d fixed. some_written (replies_to limits told input) taken taken' (Err (BadLine n)) (a.written input told is d fixed);
+    received = λ input is e. absurd (cc);
+    answered = λ input told is d fixed e. absurd (cc);
+    bounded = a.bounded;
+    read = tt;
+    was_flushed = tt;
+    read_cause = λ e. absurd (cc);
+    write_cause = λ e. absurd (cc);
+  }
+
+  pub answered_told : (r r' : Result (Unit {0}) SessionFault) → (r' ≡ r) ⊎ ((n : ℕ) × (r ≡ Err (BadLine n)) × (r' ≡ Err OutOfMemory)) → Of r → Of r'
+  answered_told r r' same a = elim same [ inl e ↦ rw e a | inr e ↦ rw e.2 (no_memory e.0 (rw e.1 at a)) ]

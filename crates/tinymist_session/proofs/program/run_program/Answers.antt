@@ -1,0 +1,36 @@
+use Rattle.std.proofs.Common.{◌≡◌, map, sym, ap, subst, ◌∙◌, Option, Some}
+use Rattle.std.specs.String.{string_bytes}
+use Rattle.tinymist_session.specs.Session.{Limits}
+use Rattle.tinymist_session.specs.Run.{Answered}
+use Rattle.tinymist_session.specs.Turns.{limits_of}
+use Rattle.tinymist_session.proofs.Told.{same_limits, answered_told}
+use Rattle.tinymist_session.proofs.program.run_program.Goals as goal
+
+pub returns-clause-session : goal.returns-clause-session
+returns-clause-session g c = λ limits is.
+    let left = g.S.LineSource.left c.args.source.now in
+    let left' = g.S.LineSource.left c.run_session-answer.new.source in
+    let told = g.M.PathAccessModel.told c.args.disk.now in
+    let old = c.args.sink.now in
+    let new = c.run_session-answer.new.sink in
+    let reads = g.S.LineSource.faults c.args.source.now in
+    let reads' = g.S.LineSource.faults c.run_session-answer.new.source in
+    let e = c.run_session-answer.ensures in
+    let same : limits_of c.in-Some.limits ≡ limits = same_limits (limits_of c.in-Some.limits) limits _ (rw c.in-Some.is at c.limits_of.ensures) is in
+    let answered : Answered (limits_of c.in-Some.limits) left left' told (g.W.ByteSink.taken old) (g.W.ByteSink.taken new) (g.W.ByteSink.flushed new) reads reads' (g.W.ByteSink.faults old) (g.W.ByteSink.faults new) (g.W.ByteSink.dry old) (g.W.ByteSink.dry new) c.run_session-answer.result = record {
+      ends = e.ends;
+      written = e.written;
+      received = e.received;
+      answered = e.answered;
+      bounded = e.bounded;
+      read = e.read;
+      was_flushed = e.flushed;
+      read_cause = e.read_cause;
+      write_cause = e.write_cause;
+    } in (
+      c.tell_answer.result,
+      c.exit_status.ensures,
+      answered_told limits left left' told (g.W.ByteSink.taken old) (g.W.ByteSink.taken new) (g.W.ByteSink.flushed new) reads reads' (g.W.ByteSink.faults old) (g.W.ByteSink.faults new) (g.W.ByteSink.dry old) (g.W.ByteSink.dry new) c.run_session-answer.result c.tell_answer.result c.tell_answer.ensures.same
+          (subst (λ (l : Limits). Answered l left left' told (g.W.ByteSink.taken old) (g.W.ByteSink.taken new) (g.W.ByteSink.flushed new) reads reads' (g.W.ByteSink.faults old) (g.W.ByteSink.faults new) (g.W.ByteSink.dry old) (g.W.ByteSink.dry new) c.run_session-answer.result) same answered),
+      c.tell_answer.ensures.told,
+    )
