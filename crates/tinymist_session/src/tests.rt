@@ -1,5 +1,5 @@
 //! Sessions over memory: worked inputs with their replies, faults in mid-stream, and edges of the grammar.
-ghost use Rattle.std.specs.Prelude.{IsTrue};
+ghost use Rattle.std.specs.Prelude.{◌≡◌};
 ghost use Rattle.tinymist_session.specs.Memory.{are_positive};
 
 use crate::{Limits, MemorySink, MemorySource, SessionFault, run_program, run_session};
@@ -26,10 +26,19 @@ fn empty_sink(alloc: Global) -> MemorySink {
     MemorySink::new(Vec::new(alloc), Vec::new(alloc), Vec::new(alloc))
 }
 
-/// A source of these bytes, in pieces of these sizes.
-fn source_of(alloc: Global, input: &[u8], sizes: Vec<usize>) -> Result<MemorySource, Fail>
-    requires { IsTrue (are_positive sizes.items) }
+fn all_positive(sizes: &[usize]) -> bool
+    ensures { result ≡ are_positive sizes.now }
 {
+    sizes.iter().all(|size| *size > 0)
+}
+
+/// A source of these bytes, in pieces of these sizes, where none of them is 0.
+fn source_of(alloc: Global, input: &[u8], sizes: Vec<usize>) -> Result<MemorySource, Fail> {
+    let sizes = if all_positive(&sizes) {
+        sizes
+    } else {
+        Vec::new(alloc)
+    };
     Ok(MemorySource::new(input.to_vec(alloc)?, sizes, Vec::new(alloc)))
 }
 
@@ -295,7 +304,7 @@ fn pieces_of_any_size(rt: HostRuntime) -> Result<(), Fail> {
     ];
     for (piece, most) in rows {
         let sizes = vec![in rt.alloc(); piece; input.len()]?;
-        let mut source = MemorySource::new(input.to_vec(rt.alloc())?, sizes, Vec::new(rt.alloc()));
+        let mut source = source_of(rt.alloc(), &input, sizes)?;
         let takes = vec![in rt.alloc(); most; replies.len()]?;
         let mut sink = MemorySink::new(Vec::new(rt.alloc()), takes, Vec::new(rt.alloc()));
         assert_eq!(rt;

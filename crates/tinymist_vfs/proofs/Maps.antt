@@ -16,7 +16,8 @@ use Rattle.ty_model.specs.Values.{Id, id_cmp, text_cmp}
 use Rattle.ty_model.proofs.Tests.{text_total, text_exact, id_total, id_exact}
 use Rattle.ty_path.specs.Shared.{path_text}
 use Rattle.ty_persist.specs.Contents.{put_entry, IsAscending}
-use Rattle.ty_persist.specs.Seen.{seen_entries, get_map, insert_map, remove_map, ascending_seen, from_entries-put_entry, from_entries-remove_entry}
+use Rattle.ty_persist.specs.Texts.{is_text}
+use Rattle.ty_persist.specs.Seen.{seen_entries, get_map, get_by_seen_map, insert_map, remove_map, ascending_seen, from_entries-put_entry, from_entries-remove_entry}
 use Rattle.tinymist_vfs.specs.Maps.{Path, path_map, id_map}
 
 abbrev pub path_cmp : Path → Path → Ordering
@@ -29,6 +30,9 @@ find_lookup q (e ∷ es) = ap (cond (eq_by_cmp id_cmp q e.0) (Some e.1)) (find_l
 module _ {X : Type 0} where
   pub paths_get : (es : List (Path × X)) (k : Path) → finmap.get (path_map es) (path_text k) ≡ lookup (is_at (path_cmp k)) es
   paths_get es k = get_map path_text (λ x. x) path_cmp text_cmp (λ a b. refl) text_total text_exact es k ∙ option_map_id _
+
+  pub text_get : (es : List (Path × X)) (q : List ℕ) → finmap.get (path_map es) q ≡ lookup (is_text q) es
+  text_get es q = get_by_seen_map path_text (λ x. x) text_total es q ∙ option_map_id _
 
   pub paths_put : (es : List (Path × X)) (k : Path) (v : X) → path_map (put_entry path_cmp es k v) ≡ finmap.insert (path_map es) (path_text k) v
   paths_put = insert_map path_text (λ x. x) path_cmp text_cmp (λ a b. refl) text_total text_exact

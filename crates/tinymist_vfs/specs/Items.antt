@@ -1,6 +1,7 @@
 -- The items of a batch as plain data.
-use Rattle.std.specs.Prelude.{ℕ, List, map}
+use Rattle.std.specs.Prelude.{ℕ, Bool, if◌then◌else◌, List, [], ◌∷◌, ◌++◌, map}
 use Rattle.ty_model.specs.Values.{Answer}
+use Rattle.ty_model.specs.Paths.{clean}
 use Rattle.ty_model.specs.Batch as change
 use Rattle.ty_path.specs.Shared.{path_text}
 use Rattle.tinymist_vfs.specs.Maps.{Path}
@@ -9,6 +10,13 @@ use Rattle.tinymist_vfs.specs.declared.item.Item.TheVariants.{MapPath, UnmapPath
 
 abbrev pub file_of : Path × Answer → List ℕ × Answer
 file_of f = (path_text f.0, f.1)
+
+-- the cleaned text of a path, and a file under its cleaned path
+abbrev pub clean_text : Path → List ℕ
+clean_text path = clean (path_text path)
+
+abbrev pub clean_file : Path × Answer → List ℕ × Answer
+clean_file f = (clean_text f.0, f.1)
 
 abbrev pub item_of : Item → change.Item
 item_of (MapPath path answer) = change.MapPath (path_text path) answer
@@ -21,3 +29,7 @@ item_of ChangeView = change.ChangeView
 
 abbrev pub items_of : List Item → List change.Item
 items_of items = map item_of items
+
+-- what a batch gathers: its items, and after them the change of view where there was one
+abbrev pub gathered : List Item → Bool → List change.Item
+gathered items view = items_of items ++ (if view then change.ChangeView ∷ [] else [])

@@ -10,7 +10,7 @@ ghost use Rattle.ty_model.specs.Standing as plain;
 use crate::item::{FileChangeSet, Item};
 use crate::layers::Layers;
 use crate::same::{either, same_id, same_path};
-use crate::store::{at_id, at_path, put_id, put_path};
+use crate::store::{at_id, at_path, at_text, put_id, put_path};
 use std::alloc::Global;
 use std::marker::Model;
 use std::sync::ledger::Ledger;
@@ -93,10 +93,10 @@ impl Changes {
         }
     }
 
-    pub(crate) fn of_path(&self, path: &ImmutPath) -> u64
-        ensures { result ≡ plain.changed_path self.now (path_text path.now) }
+    pub(crate) fn of_path(&self, path: &str) -> u64
+        ensures { result ≡ plain.changed_path self.now path.now }
     {
-        match at_path(&self.paths, path) {
+        match at_text(&self.paths, path) {
             Some(revision) => *revision,
             None => 0,
         }

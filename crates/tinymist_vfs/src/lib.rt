@@ -2,6 +2,7 @@
 #![tactic(auto)]
 
 mod changes;
+mod clean;
 mod item;
 mod layers;
 mod reading;

@@ -1,24 +1,26 @@
 //! A batch of changes of the layers, over whatever holds them.
-ghost use Rattle.std.specs.Prelude.{◌≡◌, List, [], ◌∷◌, ◌++◌, OnOk, OnErr, IfOk, IsErr, IsErrOf};
+ghost use Rattle.std.specs.Prelude.{◌≡◌, List, [], ◌∷◌, ◌++◌, OnOk, OnErr, IfOk, IsErr, IsErrOf, map, true, false};
 ghost use Rattle.std.specs.Borrow.{sem, RestsIfErr};
 ghost use Rattle.ty_model.specs.Held.{Kept};
 ghost use Rattle.ty_model.specs.Standing.{Held};
 ghost use Rattle.ty_model.specs.Version as plain;
 ghost use Rattle.ty_model.specs.Batch as change;
 ghost use Rattle.ty_model.specs.Paths as paths;
-ghost use Rattle.tinymist_vfs.specs.Items.{items_of};
+ghost use Rattle.tinymist_vfs.specs.Items.{items_of, file_of, clean_text, clean_file, gathered};
+ghost use Rattle.ty_path.specs.Shared.{path_text};
 ghost use Rattle.tinymist_vfs.specs.Commits.{put_held, is_full};
 ghost use Rattle.ty_model.specs.Touched.{commit_held};
 ghost use Rattle.ty_model.specs.Places.{Resolver};
 ghost use Rattle.ty_model.specs.Standing.{Stands, past_after, version_with};
 
-use crate::item::Item;
+use crate::item::{FileChangeSet, Item};
 use crate::vfs::Vfs;
 use std::alloc::Global;
 use std::marker::PhantomData;
 use std::sync::Arc;
 use ty_cells::FileSnapshot;
-use ty_path::{OutOfMemory, clean};
+use ty_path::{ImmutPath, OutOfMemory, Share, clean};
+use ty_syntax::FileId;
 
 /// Why nothing was revised.
 #[derive(Clone, Copy, Debug, PartialEq, Eq)]
@@ -71,6 +73,49 @@ impl<R> HoldsVfs<R> for Vfs<R> {
     }
 }
 
+/// The cleaned path, to be shared.
+fn cleaned(alloc: Global, path: &str) -> Result<ImmutPath, OutOfMemory>
+    ensures { IfOk result (λ shared. path_text shared ≡ paths.clean path.now) }
+{
+    Ok(Arc::new(alloc, clean(alloc, path)?)?)
+}
+
+/// The paths, each cleaned.
+fn cleaned_paths(alloc: Global, from: &[ImmutPath]) -> Result<Vec<ImmutPath>, OutOfMemory>
+    ensures { IfOk result (λ cleaned. map path_text cleaned.items ≡ map clean_text from.now) }
+{
+    let mut paths = Vec::with_capacity(alloc, from.len())?;
+    for path in from {
+        paths.push(cleaned(alloc, path)?)?;
+    }
+    Ok(paths)
+}
+
+/// The files, each under its cleaned path.
+fn cleaned_files(
+    alloc: Global,
+    from: &[(ImmutPath, FileSnapshot)],
+) -> Result<Vec<(ImmutPath, FileSnapshot)>, OutOfMemory>
+    ensures { IfOk result (λ cleaned. map file_of cleaned.items ≡ map clean_file from.now) }
+{
+    let mut files = Vec::with_capacity(alloc, from.len())?;
+    for (path, snap) in from {
+        files.push((cleaned(alloc, path)?, snap.share(alloc)?))?;
+    }
+    Ok(files)
+}
+
+/// The batch, and after it the change of view where there was one.
+fn with_view(batch: Batch, changes_view: bool) -> Result<Batch, OutOfMemory>
+    ensures { IfOk result (λ all. items_of all.items ≡ gathered batch.items changes_view) }
+{
+    let mut all = batch;
+    if changes_view {
+        all.push(Item::ChangeView)?;
+    }
+    Ok(all)
+}
+
 /// The changes of a batch, in their order.
 pub type Batch = Vec<Item>;
 
@@ -78,6 +123,7 @@ pub type Batch = Vec<Item>;
 pub struct RevisingVfs<'a, R, H = Vfs<R>, B = Batch> {
     holder: &'a mut H,
     batch: B,
+    changes_view: bool,
     alloc: Global,
     resolver: PhantomData<R>,
 }
@@ -90,6 +136,7 @@ impl<R, H, B: Drop> Drop for RevisingVfs<'_, R, H, B> {
         let RevisingVfs {
             holder: _,
             batch: _,
+            changes_view: _,
             alloc: _,
             resolver: _,
         } = self;
@@ -101,11 +148,12 @@ impl<'a, R, H: HoldsVfs<R>> RevisingVfs<'a, R, H> {
     pub fn new(alloc: Global, holder: &'a mut H) -> RevisingVfs<'a, R, H>
         ensures same { result.holder.ghost_name ≡ holder.entry.ghost_name }
         ensures now { result.holder.now ≡ holder.old }
-        ensures batch { result.batch.items ≡ [] }
+        ensures batch { (result.batch.items ≡ []) × (result.changes_view ≡ false) }
     {
         RevisingVfs {
             holder,
             batch: Vec::new(alloc),
+            changes_view: false,
             alloc,
             resolver: PhantomData,
         }
@@ -121,6 +169,7 @@ impl<'a, R, H: HoldsVfs<R>> RevisingVfs<'a, R, H> {
     fn add(&mut self, item: Item) -> Result<(), OutOfMemory>
         ensures same { self.new.holder.ghost_name ≡ self.old.holder.ghost_name }
         ensures now { self.new.holder.now ≡ self.old.holder.now }
+        ensures view { self.new.changes_view ≡ self.old.changes_view }
         ensures ok { OnOk result (items_of self.new.batch.items ≡ items_of self.old.batch.items ++ items_of (item ∷ [])) }
         ensures err { OnErr result (self.new.batch.items ≡ self.old.batch.items) }
     {
@@ -132,11 +181,83 @@ impl<'a, R, H: HoldsVfs<R>> RevisingVfs<'a, R, H> {
     pub fn map_shadow(&mut self, path: &str, snap: FileSnapshot) -> Result<(), OutOfMemory>
         ensures same { self.new.holder.ghost_name ≡ self.old.holder.ghost_name }
         ensures now { self.new.holder.now ≡ self.old.holder.now }
+        ensures view { self.new.changes_view ≡ self.old.changes_view }
         ensures ok { OnOk result (items_of self.new.batch.items ≡ items_of self.old.batch.items ++ change.MapPath (paths.clean path.now) snap ∷ []) }
         ensures err { OnErr result (self.new.batch.items ≡ self.old.batch.items) }
     {
-        let path = Arc::new(self.alloc, clean(self.alloc, path)?)?;
+        let path = cleaned(self.alloc, path)?;
         self.add(Item::MapPath(path, snap))
+    }
+
+    /// Takes a path, cleaned, out of the overlay, and stamps it as dropped, whether it was there or not.
+    pub fn unmap_shadow(&mut self, path: &str) -> Result<(), OutOfMemory>
+        ensures same { self.new.holder.ghost_name ≡ self.old.holder.ghost_name }
+        ensures now { self.new.holder.now ≡ self.old.holder.now }
+        ensures view { self.new.changes_view ≡ self.old.changes_view }
+        ensures ok { OnOk result (items_of self.new.batch.items ≡ items_of self.old.batch.items ++ change.UnmapPath (paths.clean path.now) ∷ []) }
+        ensures err { OnErr result (self.new.batch.items ≡ self.old.batch.items) }
+    {
+        let path = cleaned(self.alloc, path)?;
+        self.add(Item::UnmapPath(path))
+    }
+
+    /// Maps an id to what the file is to be, whatever its path.
+    pub fn map_shadow_by_id(&mut self, id: &FileId, snap: FileSnapshot) -> Result<(), OutOfMemory>
+        ensures same { self.new.holder.ghost_name ≡ self.old.holder.ghost_name }
+        ensures now { self.new.holder.now ≡ self.old.holder.now }
+        ensures view { self.new.changes_view ≡ self.old.changes_view }
+        ensures ok { OnOk result (items_of self.new.batch.items ≡ items_of self.old.batch.items ++ change.MapId id.now snap ∷ []) }
+        ensures err { OnErr result (self.new.batch.items ≡ self.old.batch.items) }
+    {
+        let id = id.share(self.alloc)?;
+        self.add(Item::MapId(id, snap))
+    }
+
+    /// Takes an id out of the overlay.
+    pub fn remove_shadow_by_id(&mut self, id: &FileId) -> Result<(), OutOfMemory>
+        ensures same { self.new.holder.ghost_name ≡ self.old.holder.ghost_name }
+        ensures now { self.new.holder.now ≡ self.old.holder.now }
+        ensures view { self.new.changes_view ≡ self.old.changes_view }
+        ensures ok { OnOk result (items_of self.new.batch.items ≡ items_of self.old.batch.items ++ change.UnmapId id.now ∷ []) }
+        ensures err { OnErr result (self.new.batch.items ≡ self.old.batch.items) }
+    {
+        let id = id.share(self.alloc)?;
+        self.add(Item::UnmapId(id))
+    }
+
+    /// Empties both overlays, and stamps each path that was in its overlay as dropped.
+    pub fn reset_shadow(&mut self) -> Result<(), OutOfMemory>
+        ensures same { self.new.holder.ghost_name ≡ self.old.holder.ghost_name }
+        ensures now { self.new.holder.now ≡ self.old.holder.now }
+        ensures view { self.new.changes_view ≡ self.old.changes_view }
+        ensures ok { OnOk result (items_of self.new.batch.items ≡ items_of self.old.batch.items ++ change.Clear ∷ []) }
+        ensures err { OnErr result (self.new.batch.items ≡ self.old.batch.items) }
+    {
+        self.add(Item::Clear)
+    }
+
+    /// Takes the removed paths out of the told files and stamps them as dropped, and then tells the inserted
+    /// files, of which the last of a path stands. All paths are cleaned.
+    pub fn notify_fs_changes(&mut self, event: FileChangeSet) -> Result<(), OutOfMemory>
+        ensures same { self.new.holder.ghost_name ≡ self.old.holder.ghost_name }
+        ensures now { self.new.holder.now ≡ self.old.holder.now }
+        ensures view { self.new.changes_view ≡ self.old.changes_view }
+        ensures ok { OnOk result (items_of self.new.batch.items ≡ items_of self.old.batch.items ++ change.ChangeSet (map clean_text event.removes.items) (map clean_file event.inserts.items) ∷ []) }
+        ensures err { OnErr result (self.new.batch.items ≡ self.old.batch.items) }
+    {
+        let removes = cleaned_paths(self.alloc, &event.removes)?;
+        let inserts = cleaned_files(self.alloc, &event.inserts)?;
+        self.add(Item::ChangeSet(FileChangeSet { removes, inserts }))
+    }
+
+    /// Raises the revision at the end of the batch, whether something differs or not. It takes no memory.
+    pub fn change_view(&mut self)
+        ensures same { self.new.holder.ghost_name ≡ self.old.holder.ghost_name }
+        ensures now { self.new.holder.now ≡ self.old.holder.now }
+        ensures view { self.new.changes_view ≡ true }
+        ensures batch { self.new.batch.items ≡ self.old.batch.items }
+    {
+        self.changes_view = true;
     }
 
     /// Commits the batch, and answers the revision, which rises by one exactly where something in the
@@ -147,19 +268,23 @@ impl<'a, R, H: HoldsVfs<R>> RevisingVfs<'a, R, H> {
     /// `Full` exactly where the revision would rise and stands at its last value; what holds the layers
     /// is then as before.
     pub fn finish(self) -> Result<u64, ReviseFault>
-        ensures ok { IfOk result (λ n. (self.exit.0.now ≡ H.with_held self.entry.holder.now (commit_held (H.kept self.entry.holder.now).held (items_of self.entry.batch.items))) × (n ≡ (commit_held (H.kept self.entry.holder.now).held (items_of self.entry.batch.items)).revision)) }
+        ensures ok { IfOk result (λ n. (self.exit.0.now ≡ H.with_held self.entry.holder.now (commit_held (H.kept self.entry.holder.now).held (gathered self.entry.batch.items self.entry.changes_view))) × (n ≡ (commit_held (H.kept self.entry.holder.now).held (gathered self.entry.batch.items self.entry.changes_view)).revision)) }
         ensures err { OnErr result (self.exit.0.now ≡ self.entry.holder.now) }
-        ensures full { IsErrOf result ReviseFault.Full → is_full (H.kept self.entry.holder.now).held (items_of self.entry.batch.items) }
-        ensures exact { is_full (H.kept self.entry.holder.now).held (items_of self.entry.batch.items) → IsErr result }
+        ensures full { IsErrOf result ReviseFault.Full → is_full (H.kept self.entry.holder.now).held (gathered self.entry.batch.items self.entry.changes_view) }
+        ensures exact { is_full (H.kept self.entry.holder.now).held (gathered self.entry.batch.items self.entry.changes_view) → IsErr result }
         ensures standing { (resolver : Resolver) (past : List plain.Version) → Stands (H.kept self.entry.holder.now).held resolver past
-            → Stands (commit_held (H.kept self.entry.holder.now).held (items_of self.entry.batch.items)) resolver (past_after (H.kept self.entry.holder.now).held.space (version_with (H.kept self.entry.holder.now).held resolver) past (items_of self.entry.batch.items)) }
+            → Stands (commit_held (H.kept self.entry.holder.now).held (gathered self.entry.batch.items self.entry.changes_view)) resolver (past_after (H.kept self.entry.holder.now).held.space (version_with (H.kept self.entry.holder.now).held resolver) past (gathered self.entry.batch.items self.entry.changes_view)) }
     {
         let RevisingVfs {
             holder,
             batch,
+            changes_view,
             alloc: _,
             resolver: _,
         } = self;
+        let Ok(batch) = with_view(batch, changes_view) else {
+            return Err(ReviseFault::OutOfMemory);
+        };
         let answer = holder.commit(batch.as_slice());
         drop(batch);
         answer
@@ -173,7 +298,7 @@ impl<R> Vfs<R> {
     pub fn revise(&mut self) -> Result<RevisingVfs<'_, R>, OutOfMemory>
         ensures* refused { sem 𝓛 (RestsIfErr (the_row R.row) self.entry (λ r. r.holder.ghost_name) result (λ n. n ≡ self.old)) }
         ensures same { IfOk result (λ r. r.holder.ghost_name ≡ self.entry.ghost_name) }
-        ensures now { IfOk result (λ r. (r.holder.now ≡ self.old) × (r.batch.items ≡ [])) }
+        ensures now { IfOk result (λ r. (r.holder.now ≡ self.old) × (r.batch.items ≡ []) × (r.changes_view ≡ false)) }
     {
         Ok(RevisingVfs::new(self.alloc, self))
     }

@@ -16,6 +16,13 @@ pub(crate) fn at_path<'m, X: Share>(files: &'m Map<ImmutPath, X>, path: &ImmutPa
     files.get(path)
 }
 
+/// What is kept under the path with this text.
+pub(crate) fn at_text<'m, X: Share>(files: &'m Map<ImmutPath, X>, path: &str) -> Option<&'m X>
+    ensures { option_copied result ≡ map.get (path_map files.now.entries) path.now }
+{
+    files.get_text(path)
+}
+
 pub(crate) fn put_path<X: Share, L: Ledger>(
     files: &mut Map<ImmutPath, X>,
     path: ImmutPath,

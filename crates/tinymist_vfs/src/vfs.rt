@@ -165,4 +165,31 @@ impl<R: RootResolver> Vfs<R> {
             resolver,
         })
     }
+    /// The same layers under a fresh space number, as one version without a past: nothing was dropped yet,
+    /// and nothing changed since.
+    pub fn fork<L: Ledger>(&self, tags: &mut Tags, steps: &mut Steps<L>) -> Result<Vfs<R>, TagFault>
+        ensures space { IfOk result (λ v. v.held.space ≡ tags.old.next_space) }
+        ensures version { IfOk result (λ v. version_of R.known v ≡ plain.forked v.held.space (version_of R.known self.now)) }
+        ensures changes { IfOk result (λ v. v.held.changes ≡ no_changes) }
+        ensures standing { IfOk result (λ v. Standing R.known v []) }
+        ensures tags { OnOk result (tags.new ≡ record tags.old { next_space = tags.old.next_space + 1 }) }
+        ensures err { OnErr result (tags.new ≡ tags.old) }
+        ensures full { IsErrOf result TagFault.Full → tags.old.next_space ≡ 2 ^ 64 - 1 }
+        ensures exact { tags.old.next_space ≡ 2 ^ 64 - 1 → IsErr result }
+        ensures cost { steps.new ≤ steps.old + 4 }
+    {
+        let mut layers = self.layers.share(steps)?;
+        let resolver = self.resolver.share(self.alloc)?;
+        let space = tags.fresh_space()?;
+        layers.forget_drops(self.alloc);
+        Ok(Vfs {
+            alloc: self.alloc,
+            space,
+            revision: 2,
+            layers,
+            reset: Stamp::next(space, 1),
+            changes: Changes::new(self.alloc),
+            resolver,
+        })
+    }
 }

@@ -1,6 +1,9 @@
 use Rattle.ty_model.proofs.Standing.{held_stands}
-use Rattle.tinymist_vfs.specs.Items.{items_of}
+use Rattle.tinymist_vfs.specs.Items.{gathered}
 use Rattle.tinymist_vfs.proofs.revise.RevisingVfs+R+H.finish.Goals as goal
 
 pub returns-clause-standing : goal.returns-clause-standing
-returns-clause-standing g c = λ resolver past s. held_stands (g.H.HoldsVfs.kept c.args.self.holder.now).held (items_of c.args.self.batch.items) resolver past s
+returns-clause-standing g c = λ resolver past s. held_stands (g.H.HoldsVfs.kept c.args.self.holder.now).held (gathered c.args.self.batch.items c.args.self.changes_view) resolver past s
+
+pub returns-in_default-clause-standing : goal.returns-in_default-clause-standing
+returns-in_default-clause-standing g c = λ resolver past s. held_stands (g.H.HoldsVfs.kept c.args.self.holder.now).held (gathered c.args.self.batch.items c.args.self.changes_view) resolver past s

@@ -1,0 +1,5 @@
+use Rattle.tinymist_vfs.proofs.Stood.{clean_stood}
+use Rattle.tinymist_vfs.proofs.vfs.Vfs.is_clean_compile.Goals as goal
+
+pub returns-clause-clean : goal.returns-clause-clean
+returns-clause-clean g c = λ past s. clean_stood g.R.RootResolver.known c.args.self.now past s c.args.rev c.args.ids.now c.are_ids_clean.result c.are_ids_clean.ensures.clean
