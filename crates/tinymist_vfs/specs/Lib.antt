@@ -5,3 +5,5 @@ pub mod RootResolver
 pub mod Reading
 pub mod ChangeSet
 pub mod Workspace
+pub mod Under
+pub mod Access

@@ -12,6 +12,7 @@ use ty_syntax::{FileId, PackageSpec, PackageVersion, Root, VirtualPath};
 
 /// An id that is being written: its path below a workspace, the path of an untitled file, or its package
 /// and the path in that. Where memory is wanting, it isn't written.
+#[derive(Drop)]
 pub struct Resolving<'a> {
     pub(crate) alloc: Global,
     pub(crate) id: Option<&'a FileId>,
