@@ -7,3 +7,4 @@ pub mod ChangeSet
 pub mod Workspace
 pub mod Under
 pub mod Access
+pub mod Deps

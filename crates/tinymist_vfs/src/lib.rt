@@ -4,6 +4,7 @@
 mod access;
 mod change_set;
 mod changes;
+mod deps;
 mod display;
 mod event;
 mod item;
@@ -22,6 +23,7 @@ mod vfs;
 mod workspace;
 
 pub use access::{AccessModel, ResolveAccessModel};
+pub use deps::NotifyDeps;
 pub use display::Resolving;
 pub use event::{FilesystemEvent, MemoryEvent, NotifyMessage, UpstreamUpdateEvent};
 pub use item::{FileChangeSet, Item};

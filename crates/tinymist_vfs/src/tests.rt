@@ -213,6 +213,17 @@ fn change_sets_grow(rt: HostRuntime) -> Result<(), Fail> {
 }
 
 #[test]
+fn watched_paths_are_told(rt: HostRuntime) -> Result<(), Fail> {
+    let alloc = rt.alloc();
+    let watched = vec![in alloc; path(alloc, "/a")?, path(alloc, "/b")?]?;
+    let mut bytes: usize = 0;
+    let mut each = |path: &ImmutPath| bytes = bytes.saturating_add(path.as_str().len());
+    watched.dependencies(&mut each);
+    assert_eq!(rt; bytes, 4);
+    Ok(())
+}
+
+#[test]
 fn files_stand_over_a_disk(rt: HostRuntime) -> Result<(), Fail> {
     let alloc = rt.alloc();
     let told = NotifyAccessModel::new(alloc, DummyAccessModel);
