@@ -3,3 +3,8 @@ pub mod Items
 pub mod Commits
 pub mod RootResolver
 pub mod Reading
+pub mod ChangeSet
+pub mod Workspace
+pub mod Under
+pub mod Access
+pub mod Deps

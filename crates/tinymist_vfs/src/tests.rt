@@ -2,9 +2,14 @@
 
 use super::*;
 use std::alloc::Global;
+use std::sync::Arc;
 use std::test::Fail;
-use ty_cells::FileSnapshot;
-use ty_syntax::{Bytes, Tags};
+use ty_cells::{DummyAccessModel, FileSnapshot, PathAccessModel};
+use ty_path::ImmutPath;
+use ty_syntax::{
+    Bytes, FileError, FileFault, FileId, FileResult, PackageError, PackageSpec, PackageVersion,
+    Root, Tags, VirtualPath,
+};
 
 /// Layers that resolve no package.
 type Layered = Vfs<MockRootResolver>;
@@ -49,5 +54,230 @@ fn revisions_rise_with_what_differs(rt: HostRuntime) -> Result<(), Fail> {
     for (files, revision) in BATCHES {
         assert_eq!(rt; mapped(rt.alloc(), &mut live, files)?, Ok(revision));
     }
+    Ok(())
+}
+
+/// A package of version 0.1.0.
+fn package(alloc: Global, namespace: &str) -> Result<PackageSpec, Fail> {
+    Ok(PackageSpec {
+        namespace: String::from_str(alloc, namespace)?,
+        name: String::from_str(alloc, "example")?,
+        version: PackageVersion {
+            major: 0,
+            minor: 1,
+            patch: 0,
+        },
+    })
+}
+
+/// The id of `a.typ` below a root.
+fn id_below(alloc: Global, root: Root) -> Result<FileId, Fail> {
+    let below = VirtualPath::new(alloc, "a.typ")?;
+    Ok(FileId::intern(alloc, root, below)?)
+}
+
+/// The path of `a.typ` below a root.
+fn path_below(alloc: Global, root: Root) -> Result<FileResult<String>, Fail> {
+    let id = id_below(alloc, root)?;
+    match MockRootResolver.path_for_id(alloc, &id) {
+        Ok(resolution) => Ok(resolution.to_err()),
+        Err(fault) => Ok(Err(fault)),
+    }
+}
+
+/// The root of `a.typ` below a root, where there is one.
+fn root_text(alloc: Global, root: Root) -> Result<Option<String>, Fail> {
+    let id = id_below(alloc, root)?;
+    match MockRootResolver.resolve_root(alloc, &id) {
+        Ok(Some(path)) => Ok(Some(String::from_str(alloc, path.as_str())?)),
+        _ => Ok(None),
+    }
+}
+
+#[test]
+fn roots_have_paths(rt: HostRuntime) -> Result<(), Fail> {
+    let alloc = rt.alloc();
+    let folder = Root::Workspace(String::from_str(alloc, "/w/./b/..")?);
+    assert_eq!(rt;
+        path_below(alloc, folder)?,
+        Ok(String::from_str(alloc, "/w/a.typ")?)
+    );
+    let untitled = Root::UntitledRooted(String::from_str(alloc, "/w/")?);
+    let denied = Err(FileFault::File(FileError::AccessDenied));
+    assert_eq!(rt; path_below(alloc, untitled)?, denied);
+    let denied = Err(FileFault::File(FileError::AccessDenied));
+    assert_eq!(rt; path_below(alloc, Root::Project)?, denied);
+    let refused = Err(FileFault::File(FileError::Other(None)));
+    assert_eq!(rt;
+        path_below(alloc, Root::Package(package(alloc, "ws")?))?,
+        refused
+    );
+    let missing = FileError::Package(PackageError::NotFound(package(alloc, "preview")?));
+    let unknown = Root::Package(package(alloc, "preview")?);
+    assert_eq!(rt; path_below(alloc, unknown)?, Err(FileFault::File(missing)));
+    Ok(())
+}
+
+#[test]
+fn roots_are_those_of_ids(rt: HostRuntime) -> Result<(), Fail> {
+    let alloc = rt.alloc();
+    let folder = Root::Workspace(String::from_str(alloc, "/w/./b/..")?);
+    assert_eq!(rt; root_text(alloc, folder)?.as_deref(), Some("/w"));
+    let untitled = Root::UntitledRooted(String::from_str(alloc, "/w/")?);
+    assert_eq!(rt; root_text(alloc, untitled)?.as_deref(), Some("/w"));
+    assert_eq!(rt; root_text(alloc, Root::Project)?.as_deref(), None);
+    assert_eq!(rt;
+        root_text(alloc, Root::Package(package(alloc, "ws")?))?.as_deref(),
+        None
+    );
+    Ok(())
+}
+
+/// An id of each kind, and the text that it is shown as.
+fn shown(alloc: Global, root: Root) -> Result<String, Fail> {
+    let id = id_below(alloc, root)?;
+    Ok(format!(in alloc; "{}", WorkspaceResolver::display(alloc, Some(&id)))?)
+}
+
+#[test]
+fn ids_are_shown(rt: HostRuntime) -> Result<(), Fail> {
+    let alloc = rt.alloc();
+    let folder = Root::Workspace(String::from_str(alloc, "/w")?);
+    assert_eq!(rt; shown(alloc, folder)?.as_str(), "/w/a.typ");
+    let untitled = Root::UntitledRooted(String::from_str(alloc, "/w")?);
+    assert_eq!(rt; shown(alloc, untitled)?.as_str(), "a.typ");
+    assert_eq!(rt; shown(alloc, Root::Project)?.as_str(), "/a.typ");
+    let known = Root::Package(package(alloc, "preview")?);
+    assert_eq!(rt;
+        shown(alloc, known)?.as_str(),
+        "@preview/example:0.1.0/a.typ"
+    );
+    let none = format!(in alloc; "{}", WorkspaceResolver::display(alloc, None))?;
+    assert_eq!(rt; none.as_str(), "unresolved-path");
+    Ok(())
+}
+
+/// `a.typ` as a virtual path.
+fn below(alloc: Global) -> Result<VirtualPath, Fail> {
+    Ok(VirtualPath::new(alloc, "a.typ")?)
+}
+
+#[test]
+fn workspaces_make_ids(rt: HostRuntime) -> Result<(), Fail> {
+    let alloc = rt.alloc();
+    let mut tags = Tags::new();
+    let file = WorkspaceResolver::workspace_file(alloc, Some("/w/"), below(alloc)?, &mut tags)?;
+    let loose = WorkspaceResolver::workspace_file(alloc, None, below(alloc)?, &mut tags)?;
+    let fresh = WorkspaceResolver::rooted_untitled(alloc, Some("/w"), below(alloc)?, &mut tags)?;
+    assert_eq!(rt; (file.tag(), loose.tag(), fresh.tag()), (0, 3, 4));
+    assert!(rt; WorkspaceResolver::is_workspace_file(&file));
+    assert!(rt; WorkspaceResolver::is_workspace_file(&fresh));
+    assert!(rt; !WorkspaceResolver::is_workspace_file(&loose));
+    assert!(rt; !WorkspaceResolver::is_package_file(&loose));
+    assert_eq!(rt;
+        WorkspaceResolver::workspace_id(alloc, "/w/.")?.path(),
+        "/w"
+    );
+    match WorkspaceResolver::resolve(alloc, &file)? {
+        WorkspaceResolution::Workspace(workspace) => assert_eq!(rt; workspace.path(), "/w"),
+        _ => assert!(rt; false, "another kind"),
+    }
+    Ok(())
+}
+
+/// A path that is shared.
+fn path(alloc: Global, text: &str) -> Result<ImmutPath, Fail> {
+    Ok(Arc::new(alloc, String::from_str(alloc, text)?)?)
+}
+
+#[test]
+fn change_sets_grow(rt: HostRuntime) -> Result<(), Fail> {
+    let alloc = rt.alloc();
+    let mut set = FileChangeSet::new_removes(alloc, vec![in alloc; path(alloc, "/a")?]?);
+    assert!(rt; !set.is_empty());
+    set.may_insert(None)?;
+    set.may_insert(Some((path(alloc, "/b")?, holding(alloc, "b")?)))?;
+    let more = vec![in alloc; (path(alloc, "/c")?, holding(alloc, "c")?)]?;
+    set.may_extend(Some(more))?;
+    set.may_extend(None)?;
+    assert_eq!(rt; (set.removes.len(), set.inserts.len()), (1, 2));
+    let event = FilesystemEvent::Update(set, true);
+    let (set, upstream, is_sync) = event.split_with_is_sync();
+    assert_eq!(rt;
+        (set.inserts.len(), upstream.is_none(), is_sync),
+        (2, true, true)
+    );
+    let none = Vec::new(alloc);
+    assert!(rt; FileChangeSet::new_inserts(alloc, none).is_empty());
+    Ok(())
+}
+
+#[test]
+fn watched_paths_are_told(rt: HostRuntime) -> Result<(), Fail> {
+    let alloc = rt.alloc();
+    let watched = vec![in alloc; path(alloc, "/a")?, path(alloc, "/b")?]?;
+    let mut bytes: usize = 0;
+    let mut each = |path: &ImmutPath| bytes = bytes.saturating_add(path.as_str().len());
+    watched.dependencies(&mut each);
+    assert_eq!(rt; bytes, 4);
+    Ok(())
+}
+
+#[test]
+fn files_stand_over_a_disk(rt: HostRuntime) -> Result<(), Fail> {
+    let alloc = rt.alloc();
+    let told = NotifyAccessModel::new(alloc, DummyAccessModel);
+    let mut over: OverlayAccessModel<ImmutPath, _> = OverlayAccessModel::new(alloc, told);
+    over.add_file(path(alloc, "/w/a.typ")?, holding(alloc, "over")?)?;
+    let files = vec![in alloc;
+        (path(alloc, "/w/a.typ")?, holding(alloc, "told")?),
+        (path(alloc, "/w/b.typ")?, holding(alloc, "told")?),
+    ]?;
+    over.inner_mut()
+        .notify(FileChangeSet::new_inserts(alloc, files))?;
+    assert!(rt;
+        over.content(alloc, "/w/a.typ")?
+            .same_as(&holding(alloc, "over")?)
+    );
+    assert!(rt;
+        over.content(alloc, "/w/b.typ")?
+            .same_as(&holding(alloc, "told")?)
+    );
+    assert!(rt; over.holds("/w/b.typ", &holding(alloc, "told")?));
+    assert_eq!(rt; over.file_paths()?.len(), 1);
+    over.remove_file(&path(alloc, "/w/a.typ")?)?;
+    over.reset();
+    assert!(rt;
+        over.content(alloc, "/w/a.typ")?
+            .same_as(&holding(alloc, "told")?)
+    );
+    Ok(())
+}
+
+#[test]
+fn ids_stand_over_their_paths(rt: HostRuntime) -> Result<(), Fail> {
+    let alloc = rt.alloc();
+    let mut disk: OverlayAccessModel<ImmutPath, _> = OverlayAccessModel::new(
+        alloc,
+        DummyAccessModel,
+    );
+    disk.add_file(path(alloc, "/w/a.typ")?, holding(alloc, "path")?)?;
+    let resolved = ResolveAccessModel {
+        resolver: MockRootResolver,
+        inner: disk,
+    };
+    let mut over: OverlayAccessModel<FileId, _> = OverlayAccessModel::new(alloc, resolved);
+    let folder = Root::Workspace(String::from_str(alloc, "/w")?);
+    let id = id_below(alloc, folder)?;
+    let (place, bytes) = over.content(alloc, &id);
+    assert!(rt; place.is_some());
+    assert_eq!(rt; bytes?.as_slice(), b"path".as_slice());
+    over.add_file(id_below(alloc, Root::Project)?, holding(alloc, "id")?)?;
+    let (place, bytes) = over.content(alloc, &id_below(alloc, Root::Project)?);
+    assert!(rt; place.is_none());
+    assert_eq!(rt; bytes?.as_slice(), b"id".as_slice());
+    over.clear_shadow();
+    let (_, bytes) = over.content(alloc, &id_below(alloc, Root::Project)?);
+    assert_eq!(rt; bytes.err(), Some(FileFault::File(FileError::AccessDenied)));
     Ok(())
 }

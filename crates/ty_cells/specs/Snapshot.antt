@@ -1,5 +1,6 @@
 -- What is said of a file, as an answer.
-use Rattle.std.specs.Prelude.{◌≡◌, ℕ, List, Result, Ok, Err, ⊤}
+use Rattle.std.specs.Prelude.{◌≡◌, ℕ, Bool, true, List, Result, Ok, Err, ⊤}
+use Rattle.std.specs.Borrow.{Bor}
 use Rattle.std.specs.Arc.{arc_value}
 use Rattle.std.specs.declared.sync.Arc.{Arc}
 use Rattle.std.specs.declared.alloc.Global.{Global}
@@ -19,3 +20,15 @@ abbrev pub AnswersAs : Answer → Result (List ℕ) FileFault → Type 0
 AnswersAs answer (Ok bytes) = answer ≡ Content bytes
 AnswersAs answer (Err (File error)) = answer ≡ Refused (refusal_of error)
 AnswersAs answer (Err OutOfMemory) = ⊤
+
+-- the same, where the bytes are lent
+abbrev pub AnswersAsLent : Answer → Result (Bor (List ℕ)) FileFault → Type 0
+AnswersAsLent answer (Ok bytes) = answer ≡ Content bytes.now
+AnswersAsLent answer (Err (File error)) = answer ≡ Refused (refusal_of error)
+AnswersAsLent answer (Err OutOfMemory) = ⊤
+
+-- true of bytes, and else what is wrong, unless memory is wanting
+abbrev pub SaysFile : Answer → Result Bool FileFault → Type 0
+SaysFile answer (Ok is) = (is ≡ true) × ((bytes : List ℕ) × (answer ≡ Content bytes))
+SaysFile answer (Err (File error)) = answer ≡ Refused (refusal_of error)
+SaysFile answer (Err OutOfMemory) = ⊤

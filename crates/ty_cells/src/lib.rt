@@ -3,15 +3,17 @@
 
 mod cells;
 mod disk;
+mod dummy;
 mod map_access;
 mod snapshot;
 mod system;
 
 pub use cells::OwnCells;
 pub use disk::PathAccessModel;
+pub use dummy::DummyAccessModel;
 pub use map_access::MapAccess;
 pub use snapshot::FileSnapshot;
-pub use system::SystemAccessModel;
+pub use system::{LazyFile, SystemAccessModel, SystemFileMeta};
 
 #[cfg(test)]
 mod tests;

@@ -1,8 +1,9 @@
 //! A disk in memory, with one answer for each path.
-ghost use Rattle.std.specs.Prelude.{◌≡◌, Some, IfOk, map};
+ghost use Rattle.std.specs.Prelude.{◌≡◌, ◌↔◌, [], ◌∷◌, IsTrue, Some, IfOk, map};
 ghost use Rattle.std.specs.List.{IsDistinct};
 ghost use Rattle.std.specs.Str.{bytes_eq};
 ghost use Rattle.ty_model.specs.Disk.{answer_of};
+ghost use Rattle.ty_cells.specs.Disk.{answers_at};
 ghost use Rattle.ty_cells.specs.MapAccess.{path_of, told_by};
 
 use crate::disk::PathAccessModel;
@@ -56,10 +57,29 @@ fn find(
     FileSnapshot::from_error(alloc, FileError::NotFound(text))
 }
 
+fn holds(files: &[(String, FileSnapshot)], path: &str, answer: &FileSnapshot) -> bool
+    ensures { IsTrue result ↔ (answers_at (told_by files.now) path.now ≡ answer.now ∷ []) }
+{
+    for (listed, said) in files {
+        if listed.as_str() == path {
+            return said.says_same(answer);
+        }
+    }
+    answer.is_missing(path)
+}
+
 impl PathAccessModel for MapAccess {
     ghost told = { Some };
+
+    ghost reset_gives = { λ before after. after ≡ before };
 
     fn content(&mut self, alloc: Global, path: &str) -> Result<FileSnapshot, OutOfMemory> {
         find(alloc, &self.files, path)
     }
+
+    fn holds(&self, path: &str, answer: &FileSnapshot) -> bool {
+        holds(&self.files, path, answer)
+    }
+
+    fn reset(&mut self) {}
 }

@@ -1,6 +1,6 @@
 //! What is said of a file: its bytes or an error.
 ghost use Rattle.std.specs.Prelude.{◌≡◌, ◌↔◌, IsTrue, IfOk};
-ghost use Rattle.ty_model.specs.Values.{Answer, Content, Refused, same_answer};
+ghost use Rattle.ty_model.specs.Values.{Answer, Content, Refused, NotFound, AccessDenied, same_answer};
 ghost use Rattle.ty_syntax.specs.Error.{refusal_of};
 
 use std::alloc::Global;
@@ -26,7 +26,7 @@ impl Model for FileSnapshot {
 }
 
 impl FileSnapshot {
-    ghost use Rattle.ty_cells.specs.Snapshot.{AnswersAs};
+    ghost use Rattle.ty_cells.specs.Snapshot.{AnswersAs, AnswersAsLent, SaysFile};
 
     /// A file with these bytes.
     pub fn from_bytes(bytes: Bytes) -> FileSnapshot
@@ -52,6 +52,34 @@ impl FileSnapshot {
         }
     }
 
+    /// The bytes.
+    ///
+    /// # Errors
+    ///
+    /// A copy of the error, exactly where there is one.
+    pub fn content(&self, alloc: Global) -> FileResult<&Bytes>
+        ensures { AnswersAsLent self.now result }
+    {
+        match &self.0 {
+            Ok(held) => Ok(held),
+            Err(error) => Err(FileFault::File(error.share(alloc)?)),
+        }
+    }
+
+    /// True of bytes.
+    ///
+    /// # Errors
+    ///
+    /// A copy of the error, exactly where there is one.
+    pub fn is_file(&self, alloc: Global) -> FileResult<bool>
+        ensures { SaysFile self.now result }
+    {
+        match self.content(alloc) {
+            Ok(_) => Ok(true),
+            Err(fault) => Err(fault),
+        }
+    }
+
     /// Whether both say the same, by their bytes or errors.
     pub fn same_as(&self, other: &FileSnapshot) -> bool
         ensures { result ≡ same_answer self.now other.now }
@@ -59,7 +87,7 @@ impl FileSnapshot {
         self.says_same(other)
     }
 
-    fn says_same(&self, other: &FileSnapshot) -> bool
+    pub(crate) fn says_same(&self, other: &FileSnapshot) -> bool
         ensures { IsTrue result ↔ (self.now ≡ other.now) }
     {
         match (&self.0, &other.0) {
@@ -67,6 +95,46 @@ impl FileSnapshot {
             (Err(a), Err(b)) => same_error(a, b),
             _ => false,
         }
+    }
+}
+
+impl FileSnapshot {
+    /// Whether it says that the path is not found.
+    pub(crate) fn is_missing(&self, path: &str) -> bool
+        ensures { IsTrue result ↔ (self.now ≡ Refused (NotFound path.now)) }
+    {
+        match &self.0 {
+            Ok(_) => false,
+            Err(error) => is_not_found(error, path),
+        }
+    }
+
+    /// Whether it says that access is denied.
+    pub(crate) fn is_denied(&self) -> bool
+        ensures { IsTrue result ↔ (self.now ≡ Refused AccessDenied) }
+    {
+        match &self.0 {
+            Ok(_) => false,
+            Err(error) => is_access_denied(error),
+        }
+    }
+}
+
+fn is_not_found(error: &FileError, path: &str) -> bool
+    ensures { IsTrue result ↔ (refusal_of error.now ≡ NotFound path.now) }
+{
+    match error {
+        FileError::NotFound(missing) => missing.as_str() == path,
+        _ => false,
+    }
+}
+
+fn is_access_denied(error: &FileError) -> bool
+    ensures { IsTrue result ↔ (refusal_of error.now ≡ AccessDenied) }
+{
+    match error {
+        FileError::AccessDenied => true,
+        _ => false,
     }
 }
 

@@ -1,11 +1,11 @@
 //! The files of the system, of which nothing is told.
-ghost use Rattle.std.specs.Prelude.{None};
+ghost use Rattle.std.specs.Prelude.{◌≡◌, None, IsTrue};
 
 use crate::disk::PathAccessModel;
 use crate::snapshot::FileSnapshot;
 use std::alloc::Global;
 use std::fs;
-use std::io::ErrorKind;
+use std::io::{self, ErrorKind};
 use std::rt::Files;
 use ty_path::OutOfMemory;
 use ty_syntax::{Bytes, FileError};
@@ -16,22 +16,79 @@ pub struct SystemAccessModel<R: Files + AllocGlobal + Drop> {
     rt: R,
 }
 
+/// What the system says of a file without its content.
+#[derive(Clone, Copy, Debug, PartialEq, Eq)]
+pub struct SystemFileMeta {
+    pub is_dir: bool,
+}
+
 impl<R: Files + AllocGlobal + Drop> SystemAccessModel<R> {
     /// The files that the runtime reaches.
     pub fn new(rt: R) -> SystemAccessModel<R> {
         SystemAccessModel { rt }
+    }
+
+    /// What the system says of a path now.
+    pub fn stat(&self, path: &str) -> io::Result<SystemFileMeta> {
+        let meta = fs::metadata(&self.rt, path)?;
+        Ok(SystemFileMeta {
+            is_dir: meta.is_dir(),
+        })
     }
 }
 
 impl<R: Files + AllocGlobal + Drop> PathAccessModel for SystemAccessModel<R> {
     ghost told = { λ _. None };
 
+    ghost reset_gives = { λ _ _. Unit {0} };
+
     /// A folder is a directory, a missing file is not found, and a file that may not be read is denied.
     fn content(&mut self, alloc: Global, path: &str) -> Result<FileSnapshot, OutOfMemory> {
-        match fs::read(&self.rt, path) {
-            Ok(bytes) => Ok(FileSnapshot::from_bytes(Bytes::new(alloc, bytes)?)),
-            Err(error) => refusal(alloc, path, error.kind()),
-        }
+        read(alloc, &self.rt, path)
+    }
+
+    /// What a file holds later isn't known, so every answer is taken as it is.
+    fn holds(&self, _path: &str, _answer: &FileSnapshot) -> bool
+        ensures { IsTrue result }
+    {
+        true
+    }
+
+    fn reset(&mut self) {}
+}
+
+/// A file of the system that isn't opened before it is read.
+#[derive(Drop)]
+pub struct LazyFile {
+    path: String,
+}
+
+impl LazyFile {
+    /// The file at a path.
+    pub fn new(path: String) -> LazyFile
+        ensures { result.path ≡ path }
+    {
+        LazyFile { path }
+    }
+
+    /// What the file holds now, as `SystemAccessModel` says it. This is a thin edge.
+    pub fn read<R: Files + AllocGlobal>(
+        &self,
+        alloc: Global,
+        rt: &R,
+    ) -> Result<FileSnapshot, OutOfMemory> {
+        read(alloc, rt, self.path.as_str())
+    }
+}
+
+fn read<R: Files + AllocGlobal>(
+    alloc: Global,
+    rt: &R,
+    path: &str,
+) -> Result<FileSnapshot, OutOfMemory> {
+    match fs::read(rt, path) {
+        Ok(bytes) => Ok(FileSnapshot::from_bytes(Bytes::new(alloc, bytes)?)),
+        Err(error) => refusal(alloc, path, error.kind()),
     }
 }
 

@@ -4,7 +4,7 @@ use super::*;
 use std::alloc::Global;
 use std::test::Fail;
 use ty_path::Share;
-use ty_syntax::{Bytes, FileError};
+use ty_syntax::{Bytes, FileError, FileFault};
 
 /// A file with these bytes.
 fn holding(alloc: Global, bytes: &[u8]) -> Result<FileSnapshot, Fail> {
@@ -54,5 +54,54 @@ fn what_is_said_is_compared_by_its_content(rt: HostRuntime) -> Result<(), Fail> 
             );
         }
     }
+    Ok(())
+}
+
+#[test]
+fn bytes_are_a_file(rt: HostRuntime) -> Result<(), Fail> {
+    let alloc = rt.alloc();
+    let file = holding(alloc, b"a")?;
+    let denied = FileSnapshot::from_error(alloc, FileError::AccessDenied)?;
+    assert_eq!(rt; file.content(alloc)?.as_slice(), b"a".as_slice());
+    assert!(rt; file.is_file(alloc)?);
+    assert_eq!(rt;
+        denied.is_file(alloc),
+        Err(FileFault::File(FileError::AccessDenied))
+    );
+    assert_eq!(rt;
+        denied.content(alloc).err(),
+        Some(FileFault::File(FileError::AccessDenied))
+    );
+    Ok(())
+}
+
+#[test]
+fn a_disk_holds_what_it_says(rt: HostRuntime) -> Result<(), Fail> {
+    let alloc = rt.alloc();
+    let mut empty = empty_disk(alloc);
+    let mut dummy = DummyAccessModel;
+    let missing = empty.content(alloc, "/a")?;
+    let denied = dummy.content(alloc, "/a")?;
+    assert!(rt; empty.holds("/a", &missing));
+    assert!(rt; !empty.holds("/b", &missing));
+    assert!(rt; !empty.holds("/a", &denied));
+    assert!(rt; dummy.holds("/b", &denied));
+    assert!(rt; !dummy.holds("/a", &missing));
+    empty.reset();
+    dummy.reset();
+    assert!(rt; empty.holds("/a", &missing));
+    Ok(())
+}
+
+#[test]
+fn the_system_tells_of_its_folders(rt: HostRuntime) -> Result<(), Fail> {
+    let alloc = rt.alloc();
+    let folder = LazyFile::new(String::from_str(alloc, "/")?);
+    let missing = LazyFile::new(String::from_str(alloc, "/no/such/file")?);
+    assert_eq!(rt;
+        folder.read(alloc, &rt)?.is_file(alloc),
+        Err(FileFault::File(FileError::IsDirectory))
+    );
+    assert!(rt; missing.read(alloc, &rt)?.is_missing("/no/such/file"));
     Ok(())
 }

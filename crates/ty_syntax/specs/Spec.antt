@@ -1,11 +1,16 @@
 -- Package specifications as plain data.
+use Rattle.std.specs.Prelude.{ℕ, List}
 use Rattle.std.specs.String.{string_bytes}
 use Rattle.ty_model.specs.Values as plain
 use Rattle.ty_syntax.specs.declared.spec.PackageVersion.{PackageVersion}
 use Rattle.ty_syntax.specs.declared.spec.PackageSpec.{PackageSpec}
+use Rattle.ty_syntax.specs.declared.spec.VersionlessPackageSpec.{VersionlessPackageSpec}
 
 abbrev pub numbers_of : PackageVersion → plain.Numbers
 numbers_of v = record { major = v.major; minor = v.minor; patch = v.patch }
 
 abbrev pub spec_of : PackageSpec → plain.Spec
 spec_of s = record { namespace = string_bytes s.namespace; name = string_bytes s.name; numbers = numbers_of s.version }
+
+abbrev pub names_of : VersionlessPackageSpec → List ℕ × List ℕ
+names_of s = (string_bytes s.namespace, string_bytes s.name)

@@ -1,21 +1,24 @@
 //! Ids of files: a root, a virtual path and a tag.
-ghost use Rattle.std.specs.Prelude.{◌≡◌, IfOk, refl};
+ghost use Rattle.std.specs.Prelude.{◌≡◌, ◌+◌, ◌-◌, ◌^◌, ◌↔◌, IfOk, OnErr, IsErrOf, fold, refl};
 ghost use Rattle.ty_model.specs.Values as plain;
 ghost use Rattle.std.specs.Ordering.{as_partial_cmp};
 ghost use Rattle.ty_syntax.specs.IdOrder.{root_cmp, same_id, id_total, id_equiv, id_part, id_order};
+ghost use Rattle.ty_syntax.specs.IdHash.{fed_root, fed_id, fed_alike};
 ghost use Rattle.ty_syntax.specs.Id.{root_of};
 ghost use Rattle.ty_model.specs.Places.{interned, stored_root};
 
 use crate::spec::PackageSpec;
+use crate::tags::{TagFault, Tags};
 use crate::vpath::VirtualPath;
 use std::alloc::Global;
 use std::cmp::Ordering;
+use std::hash::{Hash, Hasher};
 use std::marker::Model;
 use std::sync::Arc;
 use ty_path::{OutOfMemory, Share, clean};
 
 /// What a virtual path stands below.
-#[derive(Debug, PartialEq, Eq, PartialOrd, Ord, Drop)]
+#[derive(Debug, PartialEq, Eq, PartialOrd, Ord, Hash, Drop)]
 pub enum Root {
     /// Nothing that has a path.
     Project,
@@ -65,16 +68,49 @@ impl Model for FileId {
 }
 
 impl FileId {
-    ghost use Rattle.ty_syntax.specs.Id.{root_of};
+    ghost use Rattle.ty_syntax.specs.Id.{root_of, tagged};
 
     /// The id without a tag. The root of a workspace is stored cleaned.
     pub fn intern(alloc: Global, root: Root, vpath: VirtualPath) -> Result<FileId, OutOfMemory>
         ensures { IfOk result (λ id. id ≡ interned (root_of root) vpath) }
     {
+        FileId::tagged(alloc, root, vpath, 0)
+    }
+
+    /// The id with a fresh tag. The tag is spent only where this answers `Ok`, and the root of a
+    /// workspace is stored cleaned.
+    ///
+    /// # Errors
+    ///
+    /// `Full` exactly where the counter of tags stands at its last value.
+    pub fn unique(
+        alloc: Global,
+        root: Root,
+        vpath: VirtualPath,
+        tags: &mut Tags,
+    ) -> Result<FileId, TagFault>
+        ensures ok { IfOk result (λ id. (id ≡ tagged (root_of root) vpath tags.old.next_id) × (tags.new ≡ record tags.old { next_id = tags.old.next_id + 1 })) }
+        ensures err { OnErr result (tags.new ≡ tags.old) }
+        ensures full { IsErrOf result TagFault.Full ↔ (tags.old.next_id ≡ 2 ^ 64 - 1) }
+    {
+        let tag = tags.next_id()?;
+        let id = FileId::tagged(alloc, root, vpath, tag)?;
+        tags.spend_id();
+        Ok(id)
+    }
+
+    pub(crate) fn tagged(
+        alloc: Global,
+        root: Root,
+        vpath: VirtualPath,
+        tag: u64,
+    ) -> Result<FileId, OutOfMemory>
+        ensures { IfOk result (λ id. id ≡ tagged (root_of root) vpath tag) }
+    {
         let parts = Parts {
             root: root.into_stored(alloc)?,
             vpath,
-            tag: 0,
+            tag,
         };
         Ok(FileId {
             parts: Arc::new(alloc, parts)?,
@@ -160,5 +196,23 @@ impl Ord for FileId {
                     .cmp(other.parts.vpath.get_with_slash()),
             )
             .then(self.parts.tag.cmp(&other.parts.tag))
+    }
+}
+
+fn feed_root<H: Hasher>(root: &Root, state: &mut H)
+    ensures { state.new ≡ fold H.write state.old (fed_root (root_of root.now)) }
+{
+    root.hash(state);
+}
+
+impl Hash for FileId {
+    ghost hash_input = { fed_id };
+
+    ghost respects_eq = { fed_alike };
+
+    fn hash<H: Hasher>(&self, state: &mut H) {
+        feed_root(&self.parts.root, state);
+        self.parts.vpath.get_with_slash().hash(state);
+        self.parts.tag.hash(state);
     }
 }

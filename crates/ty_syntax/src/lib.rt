@@ -2,6 +2,7 @@
 #![tactic(auto)]
 
 mod bytes;
+mod entry;
 mod error;
 mod id;
 mod spec;
@@ -9,9 +10,10 @@ mod tags;
 mod vpath;
 
 pub use bytes::Bytes;
+pub use entry::{detached_entry, memory_main_entry};
 pub use error::{FileError, FileFault, FileResult, PackageError};
 pub use id::{FileId, Root};
-pub use spec::{PackageSpec, PackageVersion};
+pub use spec::{PackageSpec, PackageVersion, VersionlessPackageSpec};
 pub use tags::{TagFault, Tags};
 pub use vpath::{PathFault, VirtualPath};
 

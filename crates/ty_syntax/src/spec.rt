@@ -1,11 +1,12 @@
 //! Package specifications.
-ghost use Rattle.std.specs.Prelude.{◌≡◌};
+ghost use Rattle.std.specs.Prelude.{◌≡◌, ℕ, List};
 ghost use Rattle.ty_model.specs.Values as plain;
-ghost use Rattle.ty_syntax.specs.Spec.{spec_of};
+ghost use Rattle.ty_syntax.specs.Spec.{spec_of, names_of};
 
 use std::alloc::Global;
 use ty_path::{OutOfMemory, Share};
 
+/// The version of a package. Versions are ordered by these numbers in turn.
 #[derive(Clone, Copy, Debug, PartialEq, Eq, PartialOrd, Ord, Hash)]
 pub struct PackageVersion {
     pub major: u32,
@@ -13,11 +14,19 @@ pub struct PackageVersion {
     pub patch: u32,
 }
 
+/// A package of one version.
 #[derive(Debug, PartialEq, Eq, PartialOrd, Ord, Hash, Drop)]
 pub struct PackageSpec {
     pub namespace: String,
     pub name: String,
     pub version: PackageVersion,
+}
+
+/// A package of any version.
+#[derive(Debug, PartialEq, Eq, PartialOrd, Ord, Hash, Drop)]
+pub struct VersionlessPackageSpec {
+    pub namespace: String,
+    pub name: String,
 }
 
 impl Share for PackageSpec {
@@ -30,6 +39,19 @@ impl Share for PackageSpec {
             namespace: self.namespace.clone()?,
             name: self.name.clone()?,
             version: self.version,
+        })
+    }
+}
+
+impl Share for VersionlessPackageSpec {
+    ghost Seen = { List ℕ × List ℕ };
+
+    ghost seen = { names_of };
+
+    fn share(&self, _alloc: Global) -> Result<Self, OutOfMemory> {
+        Ok(VersionlessPackageSpec {
+            namespace: self.namespace.clone()?,
+            name: self.name.clone()?,
         })
     }
 }

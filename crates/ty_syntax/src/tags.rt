@@ -1,5 +1,5 @@
 //! The counters from which tags of ids and numbers of spaces are drawn.
-ghost use Rattle.std.specs.Prelude.{◌≡◌, ◌+◌, ◌-◌, ◌^◌, OnErr, IfOk, IsErr, IfErr, ◌↔◌};
+ghost use Rattle.std.specs.Prelude.{◌≡◌, ◌+◌, ◌-◌, ◌^◌, ◌<◌, OnErr, IfOk, IsErr, IfErr, ◌↔◌};
 
 use std::marker::Model;
 use ty_path::OutOfMemory;
@@ -47,6 +47,47 @@ impl Tags {
             next_id: 3,
             next_space: 1,
         }
+    }
+
+    /// Counters that stand at these numbers.
+    pub fn at(next_id: u64, next_space: u64) -> Tags
+        ensures { result ≡ record { next_id = next_id; next_space = next_space } }
+    {
+        Tags {
+            next_id,
+            next_space,
+        }
+    }
+
+    /// The tag of a new id. It takes no memory.
+    pub fn fresh_id(&mut self) -> Result<u64, TagFault>
+        ensures ok { IfOk result (λ n. (n ≡ self.old.next_id) × (self.new ≡ record self.old { next_id = n + 1 })) }
+        ensures err { OnErr result (self.new ≡ self.old) }
+        ensures full { IfErr result (λ fault. fault ≡ TagFault.Full) }
+        ensures exact { IsErr result ↔ (self.old.next_id ≡ 2 ^ 64 - 1) }
+    {
+        let tag = self.next_id()?;
+        self.spend_id();
+        Ok(tag)
+    }
+
+    /// The tag that comes next, which is not spent by this.
+    pub(crate) fn next_id(&self) -> Result<u64, TagFault>
+        ensures ok { IfOk result (λ n. (n ≡ self.now.next_id) × (n < 2 ^ 64 - 1)) }
+        ensures full { IfErr result (λ fault. fault ≡ TagFault.Full) }
+        ensures exact { IsErr result ↔ (self.now.next_id ≡ 2 ^ 64 - 1) }
+    {
+        if self.next_id == u64::MAX {
+            return Err(TagFault::Full);
+        }
+        Ok(self.next_id)
+    }
+
+    pub(crate) fn spend_id(&mut self)
+        requires { self.old.next_id < 2 ^ 64 - 1 }
+        ensures { self.new ≡ record self.old { next_id = self.old.next_id + 1 } }
+    {
+        self.next_id += 1;
     }
 
     /// The number of a new space. It takes no memory.

@@ -2,10 +2,11 @@
 
 use super::*;
 use std::alloc::Global;
+use std::hash::{DefaultHasher, Hash, Hasher};
 use std::test::Fail;
 
 /// A text, and the virtual path that it names or why it names none.
-static VIRTUAL: [(&str, Result<&str, PathFault>); 22] = [
+static VIRTUAL: [(&str, Result<&str, PathFault>); 23] = [
     ("", Ok("/")),
     ("/", Ok("/")),
     (".", Ok("/")),
@@ -21,6 +22,7 @@ static VIRTUAL: [(&str, Result<&str, PathFault>); 22] = [
     ("..", Err(PathFault::Escapes)),
     ("/..", Err(PathFault::Escapes)),
     ("../a", Err(PathFault::Escapes)),
+    ("/../a", Err(PathFault::Escapes)),
     ("a/../..", Err(PathFault::Escapes)),
     ("a/../../a", Err(PathFault::Escapes)),
     ("./..", Err(PathFault::Escapes)),
@@ -41,6 +43,87 @@ static REALIZED: [(&str, &str, &str); 8] = [
     (".", "/", "."),
     ("w", "/a", "w/a"),
 ];
+
+/// A root, a path, and the virtual path of it below the root or why it has none.
+static VIRTUALIZED: [(&str, &str, Result<&str, PathFault>); 31] = [
+    ("/a", "/a/b", Ok("/b")),
+    ("/a", "/a", Ok("/")),
+    ("/a/", "/a//b/", Ok("/b")),
+    ("/a/./b/..", "/a/c/../d", Ok("/d")),
+    ("/a", "/a/b/../c", Ok("/c")),
+    ("/a", "/b/../a/c", Ok("/c")),
+    ("/a", "/../a/c", Ok("/c")),
+    ("/", "/a/b", Ok("/a/b")),
+    ("/", "/", Ok("/")),
+    ("/\0/..", "/b", Ok("/b")),
+    ("/w", "/w/é/日本", Ok("/é/日本")),
+    (".", "a/b", Ok("/a/b")),
+    (".", ".", Ok("/")),
+    ("", "a", Ok("/a")),
+    ("a", "a/b", Ok("/b")),
+    ("..", "../a", Ok("/a")),
+    ("../..", "../../x/y", Ok("/x/y")),
+    ("/a", "/ab", Err(PathFault::Escapes)),
+    ("/a", "/", Err(PathFault::Escapes)),
+    ("/a", "/a/../b", Err(PathFault::Escapes)),
+    ("/a/b", "/a", Err(PathFault::Escapes)),
+    ("/", "a", Err(PathFault::Escapes)),
+    (".", "../a", Err(PathFault::Escapes)),
+    (".", "/a", Err(PathFault::Escapes)),
+    ("a", "b", Err(PathFault::Escapes)),
+    ("a", "/a/b", Err(PathFault::Escapes)),
+    ("..", "a", Err(PathFault::Escapes)),
+    ("..", "../../a", Err(PathFault::Escapes)),
+    ("/a", "\0", Err(PathFault::BadByte)),
+    ("/a", "/b/\0", Err(PathFault::BadByte)),
+    ("/a", "/a/\0/../b", Err(PathFault::BadByte)),
+];
+
+/// A virtual path, a text behind it, and the virtual path of both or why they are none.
+static JOINED: [(&str, &str, Result<&str, PathFault>); 13] = [
+    ("/a", "b", Ok("/a/b")),
+    ("/a", "/b", Ok("/a/b")),
+    ("/a", "", Ok("/a")),
+    ("/a", "..", Ok("/")),
+    ("/a", "../b", Ok("/b")),
+    ("/", "b", Ok("/b")),
+    ("/a/b", "./c//d", Ok("/a/b/c/d")),
+    ("/", "..", Err(PathFault::Escapes)),
+    ("/a", "../..", Err(PathFault::Escapes)),
+    ("/a/b", "../../..", Err(PathFault::Escapes)),
+    ("/a/b", "../../../c", Err(PathFault::Escapes)),
+    ("/a", "b\0", Err(PathFault::BadByte)),
+    ("/a", "../../\0", Err(PathFault::BadByte)),
+];
+
+/// The text of what was made, or why nothing was.
+fn as_text(made: &Result<VirtualPath, PathFault>) -> Result<&str, PathFault> {
+    match made {
+        Ok(made) => Ok(made.get_with_slash()),
+        Err(fault) => Err(*fault),
+    }
+}
+
+#[test]
+fn paths_below_a_root(rt: HostRuntime) {
+    for (root, path, named) in &VIRTUALIZED {
+        let made = VirtualPath::virtualize(rt.alloc(), root, path);
+        assert_eq!(rt; as_text(&made), *named, "of {path:?} below {root:?}");
+    }
+}
+
+/// A text behind a virtual path.
+fn joined(alloc: Global, path: &str, text: &str) -> Result<VirtualPath, PathFault> {
+    VirtualPath::new(alloc, path)?.join(alloc, text)
+}
+
+#[test]
+fn texts_behind_a_path(rt: HostRuntime) {
+    for (path, text, named) in &JOINED {
+        let made = joined(rt.alloc(), path, text);
+        assert_eq!(rt; as_text(&made), *named, "of {text:?} behind {path:?}");
+    }
+}
 
 #[test]
 fn virtual_paths(rt: HostRuntime) -> Result<(), Fail> {
@@ -115,4 +198,63 @@ fn spaces_are_drawn_once(rt: HostRuntime) {
     let mut tags = Tags::new();
     assert_eq!(rt; tags.fresh_space(), Ok(1));
     assert_eq!(rt; tags.fresh_space(), Ok(2));
+}
+
+#[test]
+fn counters_end(rt: HostRuntime) {
+    let mut tags = Tags::at(u64::MAX, u64::MAX);
+    assert_eq!(rt; tags.fresh_id(), Err(TagFault::Full));
+    assert_eq!(rt; tags.fresh_space(), Err(TagFault::Full));
+}
+
+/// The next tagged id of one root and virtual path.
+fn tagged_id(alloc: Global, tags: &mut Tags) -> Result<FileId, TagFault> {
+    let Ok(below) = VirtualPath::new(alloc, "a.typ") else {
+        return Err(TagFault::OutOfMemory);
+    };
+    FileId::unique(alloc, Root::Project, below, tags)
+}
+
+/// The tag of an id that was made.
+fn tag_of(made: Result<FileId, TagFault>) -> Result<u64, TagFault> {
+    Ok(made?.tag())
+}
+
+#[test]
+fn tags_are_spent_in_turn(rt: HostRuntime) {
+    let mut tags = Tags::at(u64::MAX - 2, 1);
+    assert_eq!(rt; tag_of(tagged_id(rt.alloc(), &mut tags)), Ok(u64::MAX - 2));
+    assert_eq!(rt; tags.fresh_id(), Ok(u64::MAX - 1));
+    assert_eq!(rt;
+        tag_of(tagged_id(rt.alloc(), &mut tags)),
+        Err(TagFault::Full)
+    );
+}
+
+#[test]
+fn entries_have_their_tags(rt: HostRuntime) -> Result<(), Fail> {
+    let detached = detached_entry(rt.alloc())?;
+    let main = memory_main_entry(rt.alloc())?;
+    assert_eq!(rt; detached.vpath().get_without_slash(), "__detached.typ");
+    assert_eq!(rt; main.vpath().get_without_slash(), "__main__.typ");
+    assert_eq!(rt; (detached.tag(), main.tag()), (1, 2));
+    assert!(rt; *detached.root() == Root::Project);
+    assert!(rt; detached != main);
+    Ok(())
+}
+
+/// What an id is hashed to.
+fn hash_of(id: &FileId) -> u64 {
+    let mut state = DefaultHasher::new();
+    id.hash(&mut state);
+    state.finish()
+}
+
+#[test]
+fn equal_ids_hash_alike(rt: HostRuntime) -> Result<(), Fail> {
+    let one = detached_entry(rt.alloc())?;
+    let other = detached_entry(rt.alloc())?;
+    assert_eq!(rt; hash_of(&one), hash_of(&other));
+    assert!(rt; hash_of(&one) != hash_of(&memory_main_entry(rt.alloc())?));
+    Ok(())
 }

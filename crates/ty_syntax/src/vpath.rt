@@ -1,16 +1,19 @@
 //! Virtual paths: texts below some root, which never leave it.
-ghost use Rattle.std.specs.Prelude.{◌≡◌, ◌+◌, ◌^◌, ◌<◌, ◌≤◌, ◌∷◌, true, length, List, ℕ, [], IfOk, IfSome, IfNone};
+ghost use Rattle.std.specs.Prelude.{◌≡◌, IsTrue, ◌+◌, ◌^◌, ◌<◌, ◌≤◌, ◌∷◌, ◌++◌, true, length, List, ℕ, [], IfOk, IfSome, IfNone};
 ghost use Rattle.std.specs.Option.{option_map_or};
 ghost use Rattle.std.specs.String.{string_bytes};
 ghost use Rattle.std.specs.List.{list_any};
 ghost use Rattle.ty_path.specs.Shared.{path_text};
 ghost use Rattle.ty_model.specs.Paths as plain;
 ghost use Rattle.ty_syntax.specs.VirtualPath.{IsVirtualPath};
+ghost use Rattle.ty_syntax.specs.Below.{leads_down, virtualized, joined_path, IsBelow, is_virtual};
+ghost use Rattle.ty_path.specs.Parts.{plain_component};
 
 use std::alloc::Global;
 use std::marker::Model;
+use std::path::{Component, Path};
 use std::sync::Arc;
-use ty_path::{ImmutStr, OutOfMemory, Share, clean, join};
+use ty_path::{ImmutStr, OutOfMemory, Share, clean, diff, join};
 
 /// Why a text is no virtual path.
 #[derive(Clone, Copy, Debug, PartialEq, Eq)]
@@ -33,7 +36,7 @@ impl From<OutOfMemory> for PathFault {
     }
 }
 
-/// A path below some root, which begins with a slash. Contracts see its text.
+/// A path below some root, which begins with a slash and is clean. Contracts see its text.
 #[derive(Drop)]
 pub struct VirtualPath {
     text: ImmutStr,
@@ -41,11 +44,15 @@ pub struct VirtualPath {
 
 impl Model for VirtualPath {
     ghost use Rattle.std.specs.Prelude.{List, ℕ};
+    ghost use Rattle.std.specs.Prelude.{IsTrue};
     ghost use Rattle.ty_path.specs.Shared.{path_text};
+    ghost use Rattle.ty_syntax.specs.Below.{is_virtual};
 
     ghost Value = { List ℕ };
 
     ghost view = { λ p. path_text p.text };
+
+    ghost invariant = { λ p. IsTrue (is_virtual (path_text p.text)) };
 }
 
 impl VirtualPath {
@@ -59,16 +66,62 @@ impl VirtualPath {
         if escapes(text) {
             return Err(PathFault::Escapes);
         }
-        let text = clean(alloc, below_root(alloc, text)?.as_str())?;
+        let text = clean(alloc, after(alloc, "", text)?.as_str())?;
+        Ok(VirtualPath::of_text(alloc, text)?)
+    }
+
+    pub(crate) fn of_text(alloc: Global, text: String) -> Result<VirtualPath, OutOfMemory>
+        requires { IsTrue (is_virtual (string_bytes text)) }
+        ensures { IfOk result (λ vpath. vpath ≡ string_bytes text) }
+    {
         Ok(VirtualPath {
-            text: Arc::new(alloc, text).map_err(|_| OutOfMemory)?,
+            text: Arc::new(alloc, text)?,
         })
+    }
+
+    /// The virtual path of a path below a root. Both are cleaned, and a path without a root is not
+    /// below one that has it, nor the other way round.
+    ///
+    /// # Errors
+    ///
+    /// `BadByte` exactly where the path holds a NUL byte, and else `Escapes` exactly where it doesn't
+    /// stand below the root.
+    pub fn virtualize(alloc: Global, root: &str, path: &str) -> Result<VirtualPath, PathFault>
+        ensures vpath { IsVirtualPath (virtualized root.now path.now) result }
+        ensures realized { IfOk result (λ vpath. plain.realize root.now vpath ≡ plain.clean path.now) }
+    {
+        if has_nul(path) {
+            return Err(PathFault::BadByte);
+        }
+        let Some(way) = diff(alloc, path, root)? else {
+            return Err(PathFault::Escapes);
+        };
+        if !leads_down(way.as_str()) {
+            return Err(PathFault::Escapes);
+        }
+        let text = after(alloc, "", way.as_str())?;
+        Ok(VirtualPath::of_text(alloc, text)?)
+    }
+
+    /// The virtual path of a text behind this path, with a slash between. It may lead up from the
+    /// path, but not above the root.
+    ///
+    /// # Errors
+    ///
+    /// As those of `new` for the whole text.
+    pub fn join(&self, alloc: Global, text: &str) -> Result<VirtualPath, PathFault>
+        ensures { IsVirtualPath (joined_path self.now text.now) result }
+    {
+        let text = after(alloc, self.text.as_str(), text)?;
+        VirtualPath::new(alloc, text.as_str())
     }
 
     /// The path below a root, cleaned.
     pub fn realize(&self, alloc: Global, root: &str) -> Result<String, OutOfMemory>
-        ensures { IfOk result (λ path. string_bytes path ≡ plain.realize root.now self.now) }
+        ensures path { IfOk result (λ path. string_bytes path ≡ plain.realize root.now self.now) }
+        ensures below { IfOk result (λ path. IsBelow root.now (string_bytes path)) }
     {
+        let _text = &self.text;
         let path = join(alloc, root, self.get_without_slash())?;
         clean(alloc, path.as_str())
     }
@@ -147,8 +200,25 @@ fn depth_after(depth: usize, part: &str) -> Option<usize>
     }
 }
 
-fn below_root(alloc: Global, text: &str) -> Result<String, OutOfMemory>
-    ensures { IfOk result (λ path. string_bytes path ≡ 47 ∷ text.now) }
+/// Whether a path has no component, or a name as its first one.
+fn leads_down(path: &str) -> bool
+    ensures { result ≡ leads_down (plain.components path.now) }
 {
-    Ok(format!(in alloc; "/{text}")?)
+    match Path::new(path).components().next() {
+        None => true,
+        Some(first) => is_name(first),
+    }
+}
+
+fn is_name(component: Component<'_>) -> bool
+    ensures { result ≡ leads_down (plain_component component.entry ∷ []) }
+{
+    matches!(component, Component::Normal(_))
+}
+
+/// A text behind a path, with a slash between.
+fn after(alloc: Global, path: &str, text: &str) -> Result<String, OutOfMemory>
+    ensures { IfOk result (λ whole. string_bytes whole ≡ path.now ++ 47 ∷ text.now) }
+{
+    Ok(format!(in alloc; "{path}/{text}")?)
 }

@@ -1,0 +1,117 @@
+//! Files that a watcher told, over another model.
+ghost use Rattle.std.specs.Prelude.{◌≡◌, ◌<◌, [], OnOk, OnErr, IfOk, map as list_map};
+ghost use Rattle.ty_path.specs.Shared.{path_text};
+ghost use Rattle.ty_model.specs.Batch.{inserted, removed};
+ghost use Rattle.tinymist_vfs.specs.Maps.{path_map};
+ghost use Rattle.tinymist_vfs.specs.Items.{file_of};
+ghost use Rattle.tinymist_vfs.specs.ChangeSet.{removed_paths, inserted_files};
+
+use crate::item::FileChangeSet;
+use crate::store::{put_path, take_path};
+use crate::under::{content_under, holds_under};
+use std::alloc::Global;
+use std::marker::Brand;
+use std::sync::ledger::{Blank, Ledger};
+use ty_cells::{FileSnapshot, PathAccessModel};
+use ty_path::{ImmutPath, OutOfMemory, Share};
+use ty_persist::{Map, Steps};
+
+/// The told files over an inner model, which is asked only for what none of them has.
+#[derive(Drop)]
+pub struct NotifyAccessModel<N: Drop> {
+    alloc: Global,
+    files: Map<ImmutPath, FileSnapshot>,
+    /// The model below.
+    pub inner: N,
+}
+
+impl<N: Drop> NotifyAccessModel<N> {
+    /// No files over a model.
+    pub fn new(alloc: Global, inner: N) -> NotifyAccessModel<N>
+        ensures files { result.files.entries ≡ [] }
+        ensures inner { result.inner ≡ inner }
+    {
+        NotifyAccessModel {
+            alloc,
+            files: Map::new(alloc),
+            inner,
+        }
+    }
+
+    /// Takes a change set in: all that it removes, and then what it inserts. An error leaves the files as
+    /// before.
+    pub fn notify(&mut self, set: FileChangeSet) -> Result<(), OutOfMemory>
+        ensures ok { OnOk result (path_map self.new.files.entries ≡ inserted (removed (path_map self.old.files.entries) (removed_paths set)) (inserted_files set)) }
+        ensures err { OnErr result (self.new.files ≡ self.old.files) }
+        ensures inner { self.new.inner ≡ self.old.inner }
+    {
+        self.files = changed::<Brand>(self.alloc, &self.files, &set, Blank::new(1))?;
+        Ok(())
+    }
+}
+
+fn changed<L: Ledger>(
+    alloc: Global,
+    files: &Map<ImmutPath, FileSnapshot>,
+    set: &FileChangeSet,
+    blank: Blank,
+) -> Result<Map<ImmutPath, FileSnapshot>, OutOfMemory>
+    requires name { blank.name ≡ L.name }
+    requires parts { blank.parts ≡ L.parts }
+    requires some { 0 < L.parts }
+    ensures { IfOk result (λ after. path_map after.entries ≡ inserted (removed (path_map files.now.entries) (removed_paths set.now)) (inserted_files set.now)) }
+{
+    let mut steps: Steps<L> = Steps::new(blank);
+    let mut after = files.share(&mut steps)?;
+    remove_all(&mut after, &set.removes, &mut steps)?;
+    insert_all(alloc, &mut after, &set.inserts, &mut steps)?;
+    Ok(after)
+}
+
+fn remove_all<L: Ledger>(
+    files: &mut Map<ImmutPath, FileSnapshot>,
+    paths: &[ImmutPath],
+    steps: &mut Steps<L>,
+) -> Result<(), OutOfMemory>
+    ensures { OnOk result (path_map files.new.entries ≡ removed (path_map files.old.entries) (list_map path_text paths.now)) }
+{
+    for path in paths {
+        take_path(files, path, steps)?;
+    }
+    Ok(())
+}
+
+fn insert_all<L: Ledger>(
+    alloc: Global,
+    files: &mut Map<ImmutPath, FileSnapshot>,
+    more: &[(ImmutPath, FileSnapshot)],
+    steps: &mut Steps<L>,
+) -> Result<(), OutOfMemory>
+    ensures { OnOk result (path_map files.new.entries ≡ inserted (path_map files.old.entries) (list_map file_of more.now)) }
+{
+    for (path, snap) in more {
+        put_path(files, path.share(alloc)?, snap.share(alloc)?, steps)?;
+    }
+    Ok(())
+}
+
+impl<N: PathAccessModel + Drop> PathAccessModel for NotifyAccessModel<N> {
+    ghost use Rattle.std.specs.Prelude.{◌≡◌};
+    ghost use Rattle.tinymist_vfs.specs.Under.{tells_under};
+
+    ghost told = { λ s. tells_under s.files.entries (N.told s.inner) };
+
+    ghost reset_gives = { λ before after. (after.files ≡ before.files) × N.reset_gives before.inner after.inner };
+
+    fn content(&mut self, alloc: Global, path: &str) -> Result<FileSnapshot, OutOfMemory> {
+        content_under(alloc, &self.files, &mut self.inner, path)
+    }
+
+    fn holds(&self, path: &str, answer: &FileSnapshot) -> bool {
+        holds_under(&self.files, &self.inner, path, answer)
+    }
+
+    fn reset(&mut self) {
+        self.inner.reset();
+    }
+}

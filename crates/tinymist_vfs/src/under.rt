@@ -1,0 +1,36 @@
+//! What a disk says of a path under some files that come first.
+ghost use Rattle.ty_cells.specs.Disk.{AnswersAsTold, HoldsAsTold};
+ghost use Rattle.tinymist_vfs.specs.Under.{tells_under};
+
+use std::alloc::Global;
+use ty_cells::{FileSnapshot, PathAccessModel};
+use ty_path::{ImmutPath, OutOfMemory, Share};
+use ty_persist::Map;
+
+pub(crate) fn content_under<N: PathAccessModel>(
+    alloc: Global,
+    files: &Map<ImmutPath, FileSnapshot>,
+    inner: &mut N,
+    path: &str,
+) -> Result<FileSnapshot, OutOfMemory>
+    ensures { AnswersAsTold (tells_under files.now.entries (N.told inner.old)) path.now result (tells_under files.now.entries (N.told inner.new)) }
+{
+    match files.get_text(path) {
+        Some(file) => file.share(alloc),
+        None => inner.content(alloc, path),
+    }
+}
+
+pub(crate) fn holds_under<N: PathAccessModel>(
+    files: &Map<ImmutPath, FileSnapshot>,
+    inner: &N,
+    path: &str,
+    answer: &FileSnapshot,
+) -> bool
+    ensures { HoldsAsTold (tells_under files.now.entries (N.told inner.now)) path.now answer.now result }
+{
+    match files.get_text(path) {
+        Some(file) => file.same_as(answer),
+        None => inner.holds(path, answer),
+    }
+}
