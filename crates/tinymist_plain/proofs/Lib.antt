@@ -4,3 +4,4 @@ pub mod Looks
 pub mod Cuts
 pub mod Views
 pub mod Runs
+pub mod Replies

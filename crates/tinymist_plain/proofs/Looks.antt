@@ -13,6 +13,7 @@ use Rattle.ty_model.proofs.Tests.{text_total}
 use Rattle.ty_path.specs.declared.memory.OutOfMemory.{OutOfMemory}
 use Rattle.ty_cells.specs.Disk.{AnswersAsTold}
 use Rattle.tinymist_plain.specs.Kept.{entry_of, layers_of, version_of, mapped_at}
+use Rattle.tinymist_plain.proofs.Layers.{Entries, with_paths}
 use Rattle.tinymist_plain.specs.declared.version.Shadow.{Shadow}
 use Rattle.tinymist_plain.specs.declared.version.Version.{Version}
 use Rattle.std.proofs.Common.{false}
@@ -24,16 +25,16 @@ or_none None = refl
 or_none (Some x) = refl
 
 -- the first entry of the path decides, or else the disk
-decided : (shadows : List Shadow) (path : List ℕ) → path_decision (layers_of shadows) path ≡ said_or (mapped_at shadows path) (Asks path)
-decided shadows path =
-    ap (λ (told : Option Answer). said_or (option_or (finmap.get (layers_of shadows).by_path path) told) (Asks path)) (finmap.get-empty text_cmp path)
-    ∙ ap (λ (o : Option Answer). said_or o (Asks path)) (or_none (finmap.get (layers_of shadows).by_path path) ∙ finmap.get-from_entries text_total (map entry_of shadows) path)
+pub decided : (entries : Entries) (path : List ℕ) → path_decision (with_paths entries) path ≡ said_or (finmap.find text_cmp path entries) (Asks path)
+decided entries path =
+    ap (λ (told : Option Answer). said_or (option_or (finmap.get (with_paths entries).by_path path) told) (Asks path)) (finmap.get-empty text_cmp path)
+    ∙ ap (λ (o : Option Answer). said_or o (Asks path)) (or_none (finmap.get (with_paths entries).by_path path) ∙ finmap.get-from_entries text_total entries path)
 
 pub by_shadow : (shadows : List Shadow) (path : List ℕ) (answer : Answer) (told : Told) → Some answer ≡ mapped_at shadows path → answer ≡ answer_by (path_decision (layers_of shadows) path) told
-by_shadow shadows path answer told is = ap (λ (o : Option Answer). answer_by (said_or o (Asks path)) told) is ∙ ap (λ (d : Decision). answer_by d told) (sym (decided shadows path))
+by_shadow shadows path answer told is = ap (λ (o : Option Answer). answer_by (said_or o (Asks path)) told) is ∙ ap (λ (d : Decision). answer_by d told) (sym (decided (map entry_of shadows) path))
 
 pub by_disk : (shadows : List Shadow) (path : List ℕ) (told : Told) → None ≡ mapped_at shadows path → answer_of told path ≡ answer_by (path_decision (layers_of shadows) path) told
-by_disk shadows path told is = ap (λ (o : Option Answer). answer_by (said_or o (Asks path)) told) is ∙ ap (λ (d : Decision). answer_by d told) (sym (decided shadows path))
+by_disk shadows path told is = ap (λ (o : Option Answer). answer_by (said_or o (Asks path)) told) is ∙ ap (λ (d : Decision). answer_by d told) (sym (decided (map entry_of shadows) path))
 
 -- an ask of a disk that tells
 pub asked_answer : (told : Told) (path : List ℕ) (r : Result Answer OutOfMemory) (after : Option Told) → AnswersAsTold (Some told) path r after → IfOk r (λ answer. answer ≡ answer_of told path)

@@ -63,17 +63,19 @@ item_at [] k w e = refl
 item_at (v ∷ vs) zero w e = cc
 item_at (v ∷ vs) (suc k) w e = item_at vs k w e
 
-views_same : (views : List model_space.Space) (k : ℕ) (w : model_space.Space) (id : Id) → slice_get views k ≡ Some w → map part_of (slice_set views k (with_asked id w)) ≡ map part_of views
-views_same views k w id e = map-set_same part_of views k (with_asked id w) w (part-asked id w ∙ ap part_of (sym (item_at views k w e)))
+-- what a reader of spaces sees of the views, where it doesn't see asked ids
+module _ {A : Type 0} (f : model_space.Space → A) (stays : (id : Id) (w : model_space.Space) → f (with_asked id w) ≡ f w) where
+  pub views_same : (views : List model_space.Space) (k : ℕ) (w : model_space.Space) (id : Id) → slice_get views k ≡ Some w → map f (slice_set views k (with_asked id w)) ≡ map f views
+  views_same views k w id e = map-set_same f views k (with_asked id w) w (stays id w ∙ ap f (sym (item_at views k w e)))
 
-got : (b : Bool) (o : Option model_space.Space) (w : model_space.Space) → cond b None o ≡ Some w → o ≡ Some w
+pub got : (b : Bool) (o : Option model_space.Space) (w : model_space.Space) → cond b None o ≡ Some w → o ≡ Some w
 got true o w e = cc
 got false o w e = e
 
 module _ (p : State) (s : machine.State) (told : Told) (k : ℕ) (path : List ℕ) (is : IsKept p s) where
   kept_in : (w : model_space.Space) (id : Option Id) → slice_get s.views (k - 1) ≡ Some w → IsKept p (read_in s told k w id).state
   kept_in w None e = is
-  kept_in w (Some id) e = record { live = is.live; views = is.views ∙ sym (views_same s.views (k - 1) w id e); next_space = is.next_space }
+  kept_in w (Some id) e = record { live = is.live; views = is.views ∙ sym (views_same part_of part-asked s.views (k - 1) w id e); next_space = is.next_space }
 
   kept_by : (view : Option model_space.Space) → view_at s.views k ≡ view → IsKept p (read_step s told k (PathWord path) view).state
   kept_by None e = is

@@ -4,11 +4,13 @@
 
 mod lines;
 mod place;
+mod rows;
 mod session;
 mod space;
 mod state;
 mod version;
 
+pub use rows::{WorkedSession, map_and_read, no_line, two_views};
 pub use session::{End, PlainSession, plain_session};
 
 #[cfg(test)]

@@ -57,17 +57,17 @@ fn compare(
 }
 
 #[test]
+fn sessions_worked_by_the_definition(rt: HostRuntime) -> Result<(), Fail> {
+    for row in [no_line(), map_and_read(), two_views()] {
+        let input = row.input.as_bytes();
+        compare(&rt, input, None, DEFAULT_LIMITS, row.replies, End::Whole)?;
+    }
+    Ok(())
+}
+
+#[test]
 fn worked_sessions(rt: HostRuntime) -> Result<(), Fail> {
     let rows = [
-        ("", ""),
-        (
-            "map\t0\t/w/a.typ\t=6869\nsnapshot\nread\t1\t/w/a.typ",
-            "ok\t3\nview\t1\nbytes\t6869\n",
-        ),
-        (
-            "map\t0\t/w/a.typ\t=6f6c64\nsnapshot\nmap\t0\t/w/a.typ\t=6e6577\nsnapshot\nread\t1\t/w/a.typ\nread\t2\t/w/a.typ\nread\t3\t/w/a.typ\n",
-            "ok\t3\nview\t1\nok\t4\nview\t2\nbytes\t6f6c64\nbytes\t6e6577\nerr\tview\n",
-        ),
         // An equal edit leaves the revision, and an edit back to an older content doesn't.
         (
             "map\t0\t/a\t=61\nmap\t0\t/a\t=61\nmap\t0\t/a\t=62\nmap\t0\t/a\t=61\nmap\t0\t/b\t=\nmap\t0\t/a\t=61\n",
