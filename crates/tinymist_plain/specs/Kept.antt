@@ -20,6 +20,7 @@ use Rattle.tinymist_plain.specs.declared.version.Version.{Version}
 use Rattle.tinymist_plain.specs.declared.space.Space.{Space}
 use Rattle.tinymist_plain.specs.declared.state.State.{State}
 
+-- a path and what is mapped there
 abbrev pub entry_of : Shadow → List ℕ × Answer
 entry_of s = (string_bytes s.path, s.answer)
 
@@ -43,6 +44,7 @@ version_of v = record (first_version 1 finmap.empty) { revision = v.revision; la
 abbrev pub space_of : Space → ℕ × List model.Version
 space_of s = (s.number, version_of s.latest ∷ map version_of s.past.items)
 
+-- the same parts of a space
 abbrev pub part_of : model_space.Space → ℕ × List model.Version
 part_of s = (s.number, s.now ∷ s.past)
 

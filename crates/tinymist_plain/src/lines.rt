@@ -1,5 +1,5 @@
 //! An input cut into lines, and the commands of its good lines.
-ghost use Rattle.std.specs.Prelude.{◌≡◌, List, ℕ, map, IfOk};
+ghost use Rattle.std.specs.Prelude.{◌≡◌, map, IfOk};
 ghost use Rattle.std.specs.Option.{option_map};
 ghost use Rattle.tinymist_session.specs.Said.{command_of};
 ghost use Rattle.tinymist_session.specs.Session as plain;
