@@ -11,7 +11,7 @@ use ty_path::OutOfMemory;
 
 /// What a line asks for.
 #[derive(Drop)]
-pub(crate) enum Command {
+pub enum Command {
     /// Maps a path of the live state to these bytes.
     Map(CleanPath, Vec<u8>),
     /// Takes a snapshot of the live state.
@@ -21,7 +21,7 @@ pub(crate) enum Command {
 }
 
 /// The command, where the line reads as one.
-pub(crate) fn read_command(alloc: Global, line: &[u8]) -> Result<Option<Command>, OutOfMemory>
+pub fn read_command(alloc: Global, line: &[u8]) -> Result<Option<Command>, OutOfMemory>
     ensures { IfOk result (λ said. option_map command_of said ≡ grammar.command_of line.now) }
 {
     match text_of(line) {

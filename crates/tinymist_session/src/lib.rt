@@ -16,10 +16,13 @@ mod system;
 mod tests;
 mod words;
 
+pub use command::{Command, read_command};
 pub use limits::{DEFAULT_LIMITS, Limits};
 pub use memory::{MemorySink, MemorySource};
 pub use program::{BAD_WORDS, OUT_OF_MEMORY, run_program};
+pub use reply::{Reply, line_of};
 pub use session::{SessionFault, run_session};
 pub use sink::{ByteSink, FlushStep, WriteStep};
 pub use source::{LineSource, ReadStep};
 pub use system::{PIECE, StdSink, StdinSource};
+pub use words::CleanPath;

@@ -9,12 +9,18 @@ use ty_syntax::{Bytes, FileError};
 
 /// What a step replies.
 #[derive(Drop)]
-pub(crate) enum Reply {
+pub enum Reply {
+    /// The revision after an edit.
     AtRevision(u64),
+    /// The number of a new view.
     ViewNumber(usize),
+    /// The bytes of a file.
     Contents(Bytes),
+    /// What is wrong with a file.
     Fails(FileError),
+    /// There is no view of that number.
     BadView,
+    /// The word names no id.
     BadId,
 }
 
@@ -34,7 +40,7 @@ fn fail_text(error: &FileError) -> &'static str
 }
 
 /// The line of a reply: its fields parted by tabs, and ended by LF.
-pub(crate) fn line_of(alloc: Global, reply: Reply) -> Result<Vec<u8>, AllocError>
+pub fn line_of(alloc: Global, reply: Reply) -> Result<Vec<u8>, AllocError>
     ensures { IfOk result (λ line. line.items ≡ reply_line (reply_of reply)) }
 {
     let text = match reply {

@@ -72,9 +72,18 @@ fn digits_from(start: u64, digits: &[u8]) -> Option<u64>
 
 /// A path that is its cleaned form.
 #[derive(Drop)]
-pub(crate) struct CleanPath {
+pub struct CleanPath {
     pub(crate) text: String,
     ghost is_clean: { clean (string_bytes text) ≡ string_bytes text },
+}
+
+impl CleanPath {
+    /// The path's text.
+    pub fn as_str(&self) -> &str
+        ensures { result.now ≡ string_bytes self.now.text }
+    {
+        self.text.as_str()
+    }
 }
 
 /// The word, where it is an absolute path that is its cleaned form.

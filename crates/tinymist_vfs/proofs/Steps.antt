@@ -107,3 +107,15 @@ module _ (old new : plain.Layers) (revision : ℕ) (a b c : Changes) (seen more 
       let before = items_of (take i items) in
       rw (map-take_push item_of items i item within is, touched_ids-push old before (item_of item), touched_paths-push old before (item_of item))
       (join_marked old new revision a b c (touched_ids old before) (item_ids old (item_of item)) (touched_paths old before) (item_paths old (item_of item)) seen more h k)
+
+-- ---- keys that are gathered
+
+pub path_step : {X : Type 0} (ps : List Path) (ys : List (Bor Path × Bor X)) (y : Bor Path × Bor X) (q : Path) (new : List Path) → map path_text ps ≡ map (λ e. path_text e.0.now) ys → path_text q ≡ path_text y.0.now → new ≡ ps ++ q ∷ [] → map path_text new ≡ map (λ e. path_text e.0.now) (ys ++ y ∷ [])
+path_step {X} ps ys y q new h same e =
+    let texts = λ (z : Bor Path × Bor X). path_text z.0.now in
+    ap (map path_text) e ∙ map-append path_text ps (q ∷ []) ∙ ap (λ (ts : List (List ℕ)). ts ++ path_text q ∷ []) h ∙ ap (λ (t : List ℕ). map texts ys ++ t ∷ []) same ∙ sym (map-append texts ys (y ∷ []))
+
+pub id_step : {X : Type 0} (is : List Id) (ys : List (Bor Id × Bor X)) (y : Bor Id × Bor X) (q : Id) (new : List Id) → is ≡ map (λ e. e.0.now) ys → q ≡ y.0.now → new ≡ is ++ q ∷ [] → new ≡ map (λ e. e.0.now) (ys ++ y ∷ [])
+id_step {X} is ys y q new h same e =
+    let ids = λ (z : Bor Id × Bor X). z.0.now in
+    e ∙ ap (λ (js : List Id). js ++ q ∷ []) h ∙ ap (λ (j : Id). map ids ys ++ j ∷ []) same ∙ sym (map-append ids ys (y ∷ []))

@@ -12,6 +12,7 @@ use crate::revise::ReviseFault;
 use crate::stamp::Stamp;
 use crate::vfs::Vfs;
 use std::sync::ledger::Ledger;
+use ty_cells::{OwnCells, PathAccessModel};
 use ty_persist::Steps;
 use ty_syntax::{FileFault, FileId, FileResult};
 
@@ -132,5 +133,37 @@ impl<R: RootResolver> Vfs<R> {
         self.changes.set_reset(self.revision);
         self.resolver = resolver;
         Ok(self.revision)
+    }
+    /// Lets the disk forget what it keeps to answer faster, and changes nothing else.
+    pub fn reset_access_model<M: PathAccessModel>(&self, cells: &mut OwnCells<'_, M>)
+        ensures same_disk { cells.new.disk.ghost_name ≡ cells.old.disk.ghost_name }
+        ensures told { M.told cells.new.disk.now ≡ M.told cells.old.disk.now }
+        ensures reached { M.reset_gives cells.old.disk.now cells.new.disk.now }
+    {
+        cells.reset();
+    }
+
+    /// `reset_read`, and then `reset_access_model`. Where the first is refused nothing is done.
+    ///
+    /// # Errors
+    ///
+    /// `Full` exactly where the revision stands at its last value.
+    pub fn reset_all<M: PathAccessModel>(
+        &mut self,
+        cells: &mut OwnCells<'_, M>,
+    ) -> Result<u64, ReviseFault>
+        ensures version { OnOk result (version_of R.known self.new ≡ change.reset self.old.held.space (version_of R.known self.old) (R.known self.old.resolver)) }
+        ensures space { self.new.held.space ≡ self.old.held.space }
+        ensures revision { IfOk result (λ n. n ≡ self.new.held.revision) }
+        ensures standing { (past : List plain.Version) → Standing R.known self.old past → OnOk result (Standing R.known self.new (version_of R.known self.old ∷ past)) }
+        ensures err { OnErr result ((self.new ≡ self.old) × (cells.new.disk.now ≡ cells.old.disk.now)) }
+        ensures full { IsErrOf result ReviseFault.Full ↔ (self.old.held.revision ≡ 2 ^ 64 - 1) }
+        ensures same_disk { cells.new.disk.ghost_name ≡ cells.old.disk.ghost_name }
+        ensures told { M.told cells.new.disk.now ≡ M.told cells.old.disk.now }
+        ensures reached { OnOk result (M.reset_gives cells.old.disk.now cells.new.disk.now) }
+    {
+        let revision = self.reset_read()?;
+        self.reset_access_model(cells);
+        Ok(revision)
     }
 }

@@ -16,6 +16,7 @@ mod reading;
 mod resolver;
 mod revise;
 mod same;
+mod shadows;
 mod stamp;
 mod store;
 mod uncounted;

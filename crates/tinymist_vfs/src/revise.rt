@@ -7,12 +7,14 @@ ghost use Rattle.ty_model.specs.Version as plain;
 ghost use Rattle.ty_model.specs.Batch as change;
 ghost use Rattle.ty_model.specs.Paths as paths;
 ghost use Rattle.tinymist_vfs.specs.Items.{items_of, file_of, clean_text, clean_file, gathered};
+ghost use Rattle.tinymist_vfs.specs.ChangeSet.{set_of};
 ghost use Rattle.ty_path.specs.Shared.{path_text};
 ghost use Rattle.tinymist_vfs.specs.Commits.{put_held, is_full};
 ghost use Rattle.ty_model.specs.Touched.{commit_held};
 ghost use Rattle.ty_model.specs.Places.{Resolver};
 ghost use Rattle.ty_model.specs.Standing.{Stands, past_after, version_with};
 
+use crate::event::FilesystemEvent;
 use crate::item::{FileChangeSet, Item};
 use crate::vfs::Vfs;
 use std::alloc::Global;
@@ -248,6 +250,18 @@ impl<'a, R, H: HoldsVfs<R>> RevisingVfs<'a, R, H> {
         let removes = cleaned_paths(self.alloc, &event.removes)?;
         let inserts = cleaned_files(self.alloc, &event.inserts)?;
         self.add(Item::ChangeSet(FileChangeSet { removes, inserts }))
+    }
+
+    /// Gathers the change set of an event, as `notify_fs_changes` does.
+    pub fn notify_fs_event(&mut self, event: FilesystemEvent) -> Result<(), OutOfMemory>
+        ensures same { self.new.holder.ghost_name ≡ self.old.holder.ghost_name }
+        ensures now { self.new.holder.now ≡ self.old.holder.now }
+        ensures view { self.new.changes_view ≡ self.old.changes_view }
+        ensures ok { OnOk result (items_of self.new.batch.items ≡ items_of self.old.batch.items ++ change.ChangeSet (map clean_text (set_of event).removes.items) (map clean_file (set_of event).inserts.items) ∷ []) }
+        ensures err { OnErr result (self.new.batch.items ≡ self.old.batch.items) }
+    {
+        let (set, _upstream) = event.split();
+        self.notify_fs_changes(set)
     }
 
     /// Raises the revision at the end of the batch, whether something differs or not. It takes no memory.

@@ -41,4 +41,12 @@ impl<'d, M: PathAccessModel> OwnCells<'d, M> {
     {
         self.disk.content(alloc, path)
     }
+    /// Lets the disk forget what it keeps to answer faster. What it tells stays.
+    pub fn reset(&mut self)
+        ensures same_disk { self.new.disk.ghost_name ≡ self.old.disk.ghost_name }
+        ensures told { M.told self.new.disk.now ≡ M.told self.old.disk.now }
+        ensures gives { M.reset_gives self.old.disk.now self.new.disk.now }
+    {
+        self.disk.reset();
+    }
 }

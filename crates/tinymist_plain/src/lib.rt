@@ -1,0 +1,17 @@
+//! The plain slow program beside the definition of a session: lists that are copied and walked. Its contract is the
+//! definition, so that what it answers can be held against any other body.
+#![tactic(auto)]
+
+mod lines;
+mod place;
+mod rows;
+mod session;
+mod space;
+mod state;
+mod version;
+
+pub use rows::{WorkedSession, map_and_read, no_line, two_views};
+pub use session::{End, PlainSession, plain_session};
+
+#[cfg(test)]
+mod tests;

@@ -1,0 +1,83 @@
+//! A space as all its versions.
+ghost use Rattle.std.specs.Prelude.{◌≡◌, ◌+◌, ◌-◌, ◌^◌, ◌<◌, ◌≤◌, ◌∷◌, [], List, false, IfOk, OnOk};
+ghost use Rattle.std.specs.FinMap as finmap;
+ghost use Rattle.ty_model.specs.Version.{first_version};
+ghost use Rattle.ty_model.specs.Batch as batch;
+ghost use Rattle.ty_model.specs.Batch.{staged, changes_view};
+ghost use Rattle.ty_model.specs.Space as model;
+ghost use Rattle.ty_model.specs.Space.{after_commit};
+ghost use Rattle.tinymist_plain.specs.Kept.{layers_of, version_of, space_of, part_of};
+
+use crate::version::Version;
+use std::alloc::Global;
+use std::mem;
+use ty_cells::FileSnapshot;
+use ty_path::OutOfMemory;
+
+/// The last version, and those before it, the newest first.
+#[derive(Drop)]
+pub(crate) struct Space {
+    number: u64,
+    pub(crate) latest: Version,
+    past: Vec<Version>,
+}
+
+impl Space {
+    /// The space at the start: one version, in which nothing is mapped.
+    pub(crate) fn first(alloc: Global) -> Space
+        ensures { space_of result ≡ (1, first_version 1 finmap.empty ∷ []) }
+    {
+        Space {
+            number: 1,
+            latest: Version::first(alloc),
+            past: Vec::new(alloc),
+        }
+    }
+
+    /// A whole copy under another number.
+    pub(crate) fn copy(&self, alloc: Global, number: u64) -> Result<Space, OutOfMemory>
+        ensures { IfOk result (λ s. space_of s ≡ (number, (space_of self.now).1)) }
+    {
+        let mut past = Vec::new(alloc);
+        for version in &self.past {
+            past.push(version.copy(alloc)?)?;
+        }
+        Ok(Space {
+            number,
+            latest: self.latest.copy(alloc)?,
+            past,
+        })
+    }
+
+    /// Maps a path.
+    pub(crate) fn map_path(
+        &mut self,
+        alloc: Global,
+        path: &str,
+        answer: FileSnapshot,
+    ) -> Result<(), OutOfMemory>
+        requires { self.old.latest.revision < 2 ^ 64 - 1 }
+        ensures space { (s : model.Space) → space_of self.old ≡ part_of s → OnOk result (space_of self.new ≡ part_of (after_commit s (batch.MapPath path.now answer ∷ []))) }
+        ensures revision { self.new.latest.revision ≤ self.old.latest.revision + 1 }
+    {
+        let mut edited = self.latest.copy(alloc)?;
+        edited.map_path(alloc, path, answer)?;
+        self.take_in(edited)
+    }
+
+    /// The version that an edit made of the last one comes after it, where something differs.
+    fn take_in(&mut self, mut edited: Version) -> Result<(), OutOfMemory>
+        requires { self.old.latest.revision < 2 ^ 64 - 1 }
+        ensures space { (s : model.Space) (items : List batch.Item) → space_of self.old ≡ part_of s → changes_view items ≡ false
+            → layers_of edited.shadows.items ≡ staged s.number s.now.revision s.now.layers items → OnOk result (space_of self.new ≡ part_of (after_commit s items)) }
+        ensures revision { self.new.latest.revision ≤ self.old.latest.revision + 1 }
+    {
+        if self.latest.same_layers(&edited) {
+            return Ok(());
+        }
+        edited.revision = self.latest.revision + 1;
+        let before = mem::replace(&mut self.latest, edited);
+        self.past.insert(0, before)?;
+        Ok(())
+    }
+}

@@ -1,0 +1,227 @@
+//! Worked sessions and short inputs at the edges: the plain program and the real one answer each of them alike.
+use super::*;
+use std::alloc::Global;
+use std::process::Abort;
+use std::test::Fail;
+use tinymist_session::{
+    DEFAULT_LIMITS, Limits, MemorySink, MemorySource, SessionFault, run_session,
+};
+use ty_cells::{FileSnapshot, MapAccess};
+use ty_syntax::Bytes;
+
+/// A disk with this file alone, if any.
+fn disk_of(alloc: Global, file: Option<(&str, &[u8])>) -> Result<MapAccess, Fail> {
+    let mut files = Vec::new(alloc);
+    if let Some((path, bytes)) = file {
+        let said = FileSnapshot::from_bytes(Bytes::new(alloc, bytes.to_vec(alloc)?)?);
+        files.push((String::from_str(alloc, path)?, said))?;
+    }
+    Ok(MapAccess::new(files))
+}
+
+/// The end that goes with an answer of the real program.
+fn end_of(answer: Result<(), SessionFault>) -> Option<End> {
+    match answer {
+        Ok(()) => Some(End::Whole),
+        Err(SessionFault::BadLine(line)) => Some(End::Bad(line)),
+        Err(SessionFault::Full) => Some(End::Over),
+        Err(_) => None,
+    }
+}
+
+/// Runs both programs over an input, and compares what they answer with each other and with these replies and
+/// this end.
+fn compare(
+    rt: &(impl Abort + AllocGlobal),
+    input: &[u8],
+    file: Option<(&str, &[u8])>,
+    limits: Limits,
+    replies: &str,
+    end: End,
+) -> Result<(), Fail> {
+    let alloc = rt.alloc();
+    let plain = plain_session(alloc, input, &limits, &mut disk_of(alloc, file)?)?;
+    let mut source = MemorySource::new(input.to_vec(alloc)?, Vec::new(alloc), Vec::new(alloc));
+    let mut sink = MemorySink::new(Vec::new(alloc), Vec::new(alloc), Vec::new(alloc));
+    let mut disk = disk_of(alloc, file)?;
+    let answer = run_session(alloc, &mut source, &mut sink, &mut disk, limits);
+    assert_eq!(rt;
+        plain.replies.as_slice(),
+        replies.as_bytes(),
+        "plain: {input:?}"
+    );
+    assert_eq!(rt; sink.bytes(), replies.as_bytes(), "real: {input:?}");
+    assert_eq!(rt; plain.end, end, "plain: {input:?}");
+    assert_eq!(rt; end_of(answer), Some(end), "real: {input:?}");
+    Ok(())
+}
+
+#[test]
+fn sessions_worked_by_the_definition(rt: HostRuntime) -> Result<(), Fail> {
+    for row in [no_line(), map_and_read(), two_views()] {
+        let input = row.input.as_bytes();
+        compare(&rt, input, None, DEFAULT_LIMITS, row.replies, End::Whole)?;
+    }
+    Ok(())
+}
+
+#[test]
+fn worked_sessions(rt: HostRuntime) -> Result<(), Fail> {
+    let rows = [
+        // An equal edit leaves the revision, and an edit back to an older content doesn't.
+        (
+            "map\t0\t/a\t=61\nmap\t0\t/a\t=61\nmap\t0\t/a\t=62\nmap\t0\t/a\t=61\nmap\t0\t/b\t=\nmap\t0\t/a\t=61\n",
+            "ok\t3\nok\t3\nok\t4\nok\t5\nok\t6\nok\t6\n",
+        ),
+        // A view is read after later edits, twice.
+        (
+            "map\t0\t/a\t=61\nsnapshot\nmap\t0\t/a\t=62\nmap\t0\t/b\t=63\nread\t1\t/a\nread\t1\t/b\nread\t1\t/a\nsnapshot\nread\t2\t/a\nread\t2\t/b\n",
+            "ok\t3\nview\t1\nok\t4\nok\t5\nbytes\t61\nfail\tnot-found\nbytes\t61\nview\t2\nbytes\t62\nbytes\t63\n",
+        ),
+        // Paths that are fronts of one another.
+        (
+            "map\t0\t/w\t=61\nmap\t0\t/w/a\t=62\nmap\t0\t/wa\t=63\nsnapshot\nread\t1\t/w\nread\t1\t/w/a\nread\t1\t/w/a/b\nread\t1\t/wa\n",
+            "ok\t3\nok\t4\nok\t5\nview\t1\nbytes\t61\nbytes\t62\nfail\tnot-found\nbytes\t63\n",
+        ),
+        // Views 0 and past the last, and a path that names no file.
+        (
+            "snapshot\nread\t0\t/a\nread\t2\t/a\nread\t18446744073709551615\t/a\nread\t0\t/\nread\t1\t/\n",
+            "view\t1\nerr\tview\nerr\tview\nerr\tview\nerr\tview\nerr\tid\n",
+        ),
+        (
+            "map\t0\t/\t=61\nsnapshot\nread\t1\t/\n",
+            "ok\t3\nview\t1\nerr\tid\n",
+        ),
+        (
+            "map\t0\t/a\t=\nsnapshot\nread\t1\t/a",
+            "ok\t3\nview\t1\nbytes\t\n",
+        ),
+        (
+            "map\t0\t/a\t=AbcD\nsnapshot\nread\t1\t/a",
+            "ok\t3\nview\t1\nbytes\tabcd\n",
+        ),
+        (
+            "map\t0\t/é\t=61\nsnapshot\nread\t1\t/é",
+            "ok\t3\nview\t1\nbytes\t61\n",
+        ),
+    ];
+    for (input, replies) in rows {
+        compare(
+            &rt,
+            input.as_bytes(),
+            None,
+            DEFAULT_LIMITS,
+            replies,
+            End::Whole,
+        )?;
+    }
+    Ok(())
+}
+
+#[test]
+fn a_file_of_the_disk(rt: HostRuntime) -> Result<(), Fail> {
+    let rows = [
+        (
+            "snapshot\nread\t1\t/w/a.typ\nread\t1\t/w\n",
+            "view\t1\nbytes\t61\nfail\tnot-found\n",
+        ),
+        (
+            "snapshot\nmap\t0\t/w/a.typ\t=62\nsnapshot\nread\t2\t/w/a.typ\nread\t1\t/w/a.typ\n",
+            "view\t1\nok\t3\nview\t2\nbytes\t62\nbytes\t61\n",
+        ),
+    ];
+    let file: Option<(&str, &[u8])> = Some(("/w/a.typ", b"a"));
+    for (input, replies) in rows {
+        compare(
+            &rt,
+            input.as_bytes(),
+            file,
+            DEFAULT_LIMITS,
+            replies,
+            End::Whole,
+        )?;
+    }
+    Ok(())
+}
+
+// Each is no sentence: a first line is answered, and the last one never is.
+#[test]
+fn lines_that_are_no_sentence(rt: HostRuntime) -> Result<(), Fail> {
+    let rows: [&[u8]; 28] = [
+        b"\n",
+        b"snapshot\r\n",
+        b"snapshot\x00\n",
+        b"snapshot\x7f\n",
+        b"snapshot\t\n",
+        b" snapshot\n",
+        b"snapshots",
+        b"map\t0\t/\xff\t=61\n",
+        b"map\t0\tw\t=61\n",
+        b"map\t0\t/w/../a\t=61\n",
+        b"map\t0\t/w//a\t=61\n",
+        b"map\t0\t/w/\t=61\n",
+        b"map\t0\t/w/.\t=61\n",
+        b"map\t00\t/a\t=61\n",
+        b"map\t1\t/a\t=61\n",
+        b"map\t0\t/a\t=6\n",
+        b"map\t0\t/a\t=6g\n",
+        b"map\t0\t/a\t61\n",
+        b"map\t0\t/a\t\n",
+        b"map\t0\t/a\n",
+        b"map\t0\t/a\t=61\t\n",
+        b"read\t1\n",
+        b"read\t1\t/a\t\n",
+        b"read\t\t/a\n",
+        b"read\t01\t/a\n",
+        b"read\t18446744073709551616\t/a\n",
+        b"read\t+1\t/a\n",
+        b"read\t1\ta\n",
+    ];
+    let alloc = rt.alloc();
+    for row in rows {
+        let mut input = b"snapshot\n".to_vec(alloc)?;
+        input.extend_from_slice(row)?;
+        if !row.ends_with(b"\n") {
+            input.push(b'\n')?;
+        }
+        input.extend_from_slice(b"snapshot\n")?;
+        compare(&rt, &input, None, DEFAULT_LIMITS, "view\t1\n", End::Bad(2))?;
+    }
+    Ok(())
+}
+
+#[test]
+fn limits_of_lines(rt: HostRuntime) -> Result<(), Fail> {
+    let three = "snapshot\nsnapshot\nsnapshot\n";
+    let rows = [
+        (8, 3, three, "view\t1\nview\t2\nview\t3\n", End::Whole),
+        (8, 2, three, "view\t1\nview\t2\n", End::Over),
+        (7, 2, three, "", End::Bad(1)),
+        (7, 0, three, "", End::Over),
+        (
+            8,
+            2,
+            "snapshot\nsnapshot\n",
+            "view\t1\nview\t2\n",
+            End::Whole,
+        ),
+        (8, 1, "snapshot\n\n", "view\t1\n", End::Over),
+        (
+            8,
+            2,
+            "snapshot\nsnapshots\nsnapshot\n",
+            "view\t1\n",
+            End::Bad(2),
+        ),
+        (8, 0, "", "", End::Whole),
+        (0, 1, "\n", "", End::Bad(1)),
+    ];
+    for (max_line, max_lines, input, replies, end) in rows {
+        let limits = Limits {
+            max_line,
+            max_lines,
+        };
+        compare(&rt, input.as_bytes(), None, limits, replies, end)?;
+    }
+    Ok(())
+}
