@@ -6,7 +6,7 @@ use std::test::Fail;
 use tinymist_session::{
     DEFAULT_LIMITS, Limits, MemorySink, MemorySource, SessionFault, run_session,
 };
-use ty_cells::{FileSnapshot, MapAccess};
+use ty_cells::{FileSnapshot, MapAccess, PathAccessModel};
 use ty_syntax::Bytes;
 
 /// A disk with this file alone, if any.
@@ -29,22 +29,21 @@ fn end_of(answer: Result<(), SessionFault>) -> Option<End> {
     }
 }
 
-/// Runs both programs over an input, and compares what they answer with each other and with these replies and
-/// this end.
-fn compare(
+/// Runs both programs over an input and a disk that stays as it is, and compares what they answer with each other
+/// and with these replies and this end.
+fn compare<M: PathAccessModel>(
     rt: &(impl Abort + AllocGlobal),
     input: &[u8],
-    file: Option<(&str, &[u8])>,
+    disk: &mut M,
     limits: Limits,
     replies: &str,
     end: End,
 ) -> Result<(), Fail> {
     let alloc = rt.alloc();
-    let plain = plain_session(alloc, input, &limits, &mut disk_of(alloc, file)?)?;
+    let plain = plain_session(alloc, input, &limits, disk)?;
     let mut source = MemorySource::new(input.to_vec(alloc)?, Vec::new(alloc), Vec::new(alloc));
     let mut sink = MemorySink::new(Vec::new(alloc), Vec::new(alloc), Vec::new(alloc));
-    let mut disk = disk_of(alloc, file)?;
-    let answer = run_session(alloc, &mut source, &mut sink, &mut disk, limits);
+    let answer = run_session(alloc, &mut source, &mut sink, disk, limits);
     assert_eq!(rt;
         plain.replies.as_slice(),
         replies.as_bytes(),
@@ -58,9 +57,17 @@ fn compare(
 
 #[test]
 fn sessions_worked_by_the_definition(rt: HostRuntime) -> Result<(), Fail> {
+    let mut disk = disk_of(rt.alloc(), None)?;
     for row in [no_line(), map_and_read(), two_views()] {
         let input = row.input.as_bytes();
-        compare(&rt, input, None, DEFAULT_LIMITS, row.replies, End::Whole)?;
+        compare(
+            &rt,
+            input,
+            &mut disk,
+            DEFAULT_LIMITS,
+            row.replies,
+            End::Whole,
+        )?;
     }
     Ok(())
 }
@@ -105,11 +112,12 @@ fn worked_sessions(rt: HostRuntime) -> Result<(), Fail> {
             "ok\t3\nview\t1\nbytes\t61\n",
         ),
     ];
+    let mut disk = disk_of(rt.alloc(), None)?;
     for (input, replies) in rows {
         compare(
             &rt,
             input.as_bytes(),
-            None,
+            &mut disk,
             DEFAULT_LIMITS,
             replies,
             End::Whole,
@@ -130,12 +138,12 @@ fn a_file_of_the_disk(rt: HostRuntime) -> Result<(), Fail> {
             "view\t1\nok\t3\nview\t2\nbytes\t62\nbytes\t61\n",
         ),
     ];
-    let file: Option<(&str, &[u8])> = Some(("/w/a.typ", b"a"));
+    let mut disk = disk_of(rt.alloc(), Some(("/w/a.typ", b"a")))?;
     for (input, replies) in rows {
         compare(
             &rt,
             input.as_bytes(),
-            file,
+            &mut disk,
             DEFAULT_LIMITS,
             replies,
             End::Whole,
@@ -178,6 +186,7 @@ fn lines_that_are_no_sentence(rt: HostRuntime) -> Result<(), Fail> {
         b"read\t1\ta\n",
     ];
     let alloc = rt.alloc();
+    let mut disk = disk_of(alloc, None)?;
     for row in rows {
         let mut input = b"snapshot\n".to_vec(alloc)?;
         input.extend_from_slice(row)?;
@@ -185,7 +194,14 @@ fn lines_that_are_no_sentence(rt: HostRuntime) -> Result<(), Fail> {
             input.push(b'\n')?;
         }
         input.extend_from_slice(b"snapshot\n")?;
-        compare(&rt, &input, None, DEFAULT_LIMITS, "view\t1\n", End::Bad(2))?;
+        compare(
+            &rt,
+            &input,
+            &mut disk,
+            DEFAULT_LIMITS,
+            "view\t1\n",
+            End::Bad(2),
+        )?;
     }
     Ok(())
 }
@@ -213,15 +229,17 @@ fn limits_of_lines(rt: HostRuntime) -> Result<(), Fail> {
             "view\t1\n",
             End::Bad(2),
         ),
+        (8, 2, "snapshot\nx", "view\t1\n", End::Bad(2)),
         (8, 0, "", "", End::Whole),
         (0, 1, "\n", "", End::Bad(1)),
     ];
+    let mut disk = disk_of(rt.alloc(), None)?;
     for (max_line, max_lines, input, replies, end) in rows {
         let limits = Limits {
             max_line,
             max_lines,
         };
-        compare(&rt, input.as_bytes(), None, limits, replies, end)?;
+        compare(&rt, input.as_bytes(), &mut disk, limits, replies, end)?;
     }
     Ok(())
 }
