@@ -1,0 +1,92 @@
+#!/usr/bin/env python3
+"""Measures the built program: makes inputs, runs it on them, and prints a table.
+
+    ./tinymist_session < examples/two_views.session   # builds the program
+    python3 bench/session.py
+
+Only the standard library is used. It is no part of the gate.
+"""
+import os
+import subprocess
+import sys
+import tempfile
+import time
+
+HERE = os.path.dirname(os.path.abspath(__file__))
+PROGRAM = os.path.join(HERE, "..", "crates", "tinymist_session_main", "out", "tinymist_session_main")
+MIB = 1 << 20
+
+
+def maps(count, paths=64, size=64):
+    """Lines that map so many paths in turn to contents of so many bytes."""
+    lines = []
+    for i in range(count):
+        content = ("%02x" % (i % 251)) * size
+        lines.append("map\t0\t/w/f%d.typ\t=%s\n" % (i % paths, content))
+    return "".join(lines).encode()
+
+
+def reads(count, paths=64):
+    """Lines that read so many paths of one view in turn."""
+    lines = ["snapshot\n"]
+    for i in range(count):
+        lines.append("read\t1\t/w/f%d.typ\n" % (i % paths))
+    return maps(paths) + "".join(lines).encode()
+
+
+def contents(count, size):
+    """So many contents of so many bytes, each mapped and then read."""
+    line = b"".join(b"map\t0\t/w/f%d.typ\t=" % i + b"7a" * size + b"\n" for i in range(count))
+    return line + b"snapshot\n" + b"".join(b"read\t1\t/w/f%d.typ\n" % i for i in range(count))
+
+
+def triples(files, count=5000):
+    """So many files, and then triples of a snapshot, a map and a read of that view."""
+    lines = []
+    for i in range(count):
+        lines.append("snapshot\nmap\t0\t/w/f%d.typ\t=%04x\nread\t%d\t/w/f%d.typ\n" % (i % files, i, i + 1, i % files))
+    return maps(files, files, 8) + "".join(lines).encode()
+
+
+def run(data, words=("session", "--max-lines", "4000000", "--max-line", "200000000")):
+    """The wall, user and system time in seconds, the peak memory in KiB, and the bytes written."""
+    with tempfile.TemporaryFile() as source, tempfile.TemporaryFile() as sink:
+        source.write(data)
+        source.seek(0)
+        begin = time.perf_counter()
+        child = subprocess.Popen([PROGRAM, *words], stdin=source, stdout=sink)
+        _, status, usage = os.wait4(child.pid, 0)
+        wall = time.perf_counter() - begin
+        child.returncode = os.waitstatus_to_exitcode(status)
+        if child.returncode != 0:
+            sys.exit("the program ended with status %d" % child.returncode)
+        return wall, usage.ru_utime, usage.ru_stime, usage.ru_maxrss, os.fstat(sink.fileno()).st_size
+
+
+def row(name, data):
+    wall, user, system, peak, written = min(run(data) for _ in range(3))
+    lines = data.count(b"\n")
+    print("%-44s %9d %8.1f %8.3f %8.3f %8.3f %10.0f %8.1f %8.1f" % (
+        name, lines, len(data) / MIB, wall, user, system, lines / wall, (len(data) + written) / MIB / wall, peak / 1024))
+    sys.stdout.flush()
+
+
+def main():
+    if not os.path.exists(PROGRAM):
+        sys.exit("build the program first: ./tinymist_session < examples/two_views.session")
+    print("%-44s %9s %8s %8s %8s %8s %10s %8s %8s" % (
+        "best of three runs", "lines", "MiB in", "wall s", "user s", "sys s", "lines/s", "MiB/s", "MiB peak"))
+    row("maps of 64 bytes over 64 paths", maps(100_000))
+    row("  twice as many", maps(200_000))
+    row("reads of one view", reads(100_000))
+    row("  twice as many", reads(200_000))
+    row("64 contents of 1 MiB, mapped and read", contents(64, MIB))
+    row("one line of 8 MiB", contents(1, 4 * MIB))
+    row("  of 16 MiB", contents(1, 8 * MIB))
+    row("  of 32 MiB", contents(1, 16 * MIB))
+    for files in (100, 1000, 10_000, 100_000):
+        row("5,000 snapshot, map, read over %d files" % files, triples(files))
+
+
+if __name__ == "__main__":
+    main()
