@@ -16,6 +16,8 @@ pub struct FxDashMap<K: Eq + Hash, V> {
 }
 
 impl<K: Eq + Hash + Drop, V: Drop> FxDashMap<K, V> {
+    ghost use Rattle.tinymist_std.specs.FxDashMap.{part_number};
+
     /// An empty map of so many parts.
     pub fn new(alloc: Global, shards: u32) -> Result<FxDashMap<K, V>, OutOfMemory>
         requires { 0 < shards }
@@ -48,8 +50,14 @@ impl<K: Eq + Hash + Drop, V: Drop> FxDashMap<K, V> {
 
     // The part of the key.
     fn shard(&self, k: &K) -> &RwLock<HashMap<K, V>> {
+        &self.shards[self.shard_number(k)]
+    }
+
+    // The number of the key's part, which the key and the count of parts decide.
+    fn shard_number(&self, k: &K) -> usize
+        ensures { result ≡ part_number (K.hash_input k.now) (length self.now.shards.items) }
+    {
         let hasher: BuildHasherDefault<FoldHasher> = BuildHasherDefault::default();
-        let number = hasher.hash_one(k) as usize % self.shards.len();
-        &self.shards[number]
+        hasher.hash_one(k) as usize % self.shards.len()
     }
 }
