@@ -14,4 +14,4 @@ pub mod Date
 pub mod FingerprintMap
 pub mod FxDashMap
 pub mod Paths
-pub mod Filesystem
+pub mod FileLock

@@ -2,7 +2,7 @@
 ghost use Rattle.std.specs.Prelude.{◌≡◌, IfErr, codes, string_bytes};
 ghost use Rattle.std.specs.Option.{option_copied};
 ghost use Rattle.std.specs.Path.{path_parent};
-ghost use Rattle.tinymist_std.specs.Filesystem.{lock_path};
+ghost use Rattle.tinymist_std.specs.FileLock.{lock_file, lock_path};
 ghost use Rattle.tinymist_std.specs.Paths.{IsFileFault};
 
 use crate::error::Result;
@@ -23,13 +23,16 @@ pub struct FileLock {
 impl FileLock {
     /// A file that holds its lock.
     pub(crate) fn new(file: File, path: String) -> FileLock
-        ensures { lock_path result ≡ string_bytes path }
+        ensures file { lock_file result ≡ file }
+        ensures path { lock_path result ≡ string_bytes path }
     {
         FileLock { file, path }
     }
 
     /// The open file.
-    pub fn file(&self) -> &File {
+    pub fn file(&self) -> &File
+        ensures { result.now ≡ lock_file self.now }
+    {
         &self.file
     }
 

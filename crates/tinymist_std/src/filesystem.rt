@@ -1,6 +1,6 @@
 //! A folder whose files are opened with a lock.
 ghost use Rattle.std.specs.Prelude.{◌≡◌, IfOk, IfErr, IfSome, OnOk, OnErr, codes, string_bytes};
-ghost use Rattle.tinymist_std.specs.Filesystem.{lock_path};
+ghost use Rattle.tinymist_std.specs.FileLock.{lock_path};
 ghost use Rattle.tinymist_std.specs.Paths.{IsFileFault};
 ghost use Rattle.ty_model.specs.Paths as plain;
 
@@ -91,7 +91,8 @@ impl Filesystem {
         _msg: &str,
     ) -> Result<FileLock>
         ensures path { IfOk result (λ lock. lock_path lock ≡ plain.join self.now path.now) }
-        ensures err { IfErr result (IsFileFault (codes "open_rw_exclusive_create") (plain.join self.now path.now)) }
+        ensures err { IfErr result
+            (IsFileFault (codes "open_rw_exclusive_create") (plain.join self.now path.now)) }
     {
         self.acquire(rt, "open_rw_exclusive_create", path, Access::Write)
     }
@@ -105,7 +106,8 @@ impl Filesystem {
     ) -> Result<Option<FileLock>>
         ensures path { IfOk result (λ found. IfSome found (λ lock.
             lock_path lock ≡ plain.join self.now path.now)) }
-        ensures err { IfErr result (IsFileFault (codes "try_open_rw_exclusive_create") (plain.join self.now path.now)) }
+        ensures err { IfErr result
+            (IsFileFault (codes "try_open_rw_exclusive_create") (plain.join self.now path.now)) }
     {
         self.try_acquire(rt, "try_open_rw_exclusive_create", path, Access::Write)
     }
@@ -119,7 +121,8 @@ impl Filesystem {
         _msg: &str,
     ) -> Result<FileLock>
         ensures path { IfOk result (λ lock. lock_path lock ≡ plain.join self.now path.now) }
-        ensures err { IfErr result (IsFileFault (codes "open_ro_shared") (plain.join self.now path.now)) }
+        ensures err { IfErr result
+            (IsFileFault (codes "open_ro_shared") (plain.join self.now path.now)) }
     {
         self.acquire(rt, "open_ro_shared", path, Access::Read)
     }
@@ -132,7 +135,8 @@ impl Filesystem {
         _msg: &str,
     ) -> Result<FileLock>
         ensures path { IfOk result (λ lock. lock_path lock ≡ plain.join self.now path.now) }
-        ensures err { IfErr result (IsFileFault (codes "open_ro_shared_create") (plain.join self.now path.now)) }
+        ensures err { IfErr result
+            (IsFileFault (codes "open_ro_shared_create") (plain.join self.now path.now)) }
     {
         self.acquire(rt, "open_ro_shared_create", path, Access::ReadOrCreate)
     }
@@ -146,7 +150,8 @@ impl Filesystem {
     ) -> Result<Option<FileLock>>
         ensures path { IfOk result (λ found. IfSome found (λ lock.
             lock_path lock ≡ plain.join self.now path.now)) }
-        ensures err { IfErr result (IsFileFault (codes "try_open_ro_shared_create") (plain.join self.now path.now)) }
+        ensures err { IfErr result
+            (IsFileFault (codes "try_open_ro_shared_create") (plain.join self.now path.now)) }
     {
         self.try_acquire(rt, "try_open_ro_shared_create", path, Access::ReadOrCreate)
     }
