@@ -12,3 +12,6 @@ pub mod CowMut
 pub mod CowBytes
 pub mod Date
 pub mod FingerprintMap
+pub mod FxDashMap
+pub mod Paths
+pub mod FileLock

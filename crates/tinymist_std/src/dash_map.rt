@@ -16,9 +16,12 @@ pub struct FxDashMap<K: Eq + Hash, V> {
 }
 
 impl<K: Eq + Hash + Drop, V: Drop> FxDashMap<K, V> {
+    ghost use Rattle.tinymist_std.specs.FxDashMap.{part_count, part_number};
+
     /// An empty map of so many parts.
     pub fn new(alloc: Global, shards: u32) -> Result<FxDashMap<K, V>, OutOfMemory>
         requires { 0 < shards }
+        ensures { IfOk result (λ map. part_count map ≡ shards) }
     {
         let count = shards;
         let mut shards = Vec::with_capacity(alloc, count as usize)?;
@@ -48,8 +51,14 @@ impl<K: Eq + Hash + Drop, V: Drop> FxDashMap<K, V> {
 
     // The part of the key.
     fn shard(&self, k: &K) -> &RwLock<HashMap<K, V>> {
+        &self.shards[self.shard_number(k)]
+    }
+
+    // The number of the key's part, which the key and the count of parts decide.
+    fn shard_number(&self, k: &K) -> usize
+        ensures { result ≡ part_number (K.hash_input k.now) (part_count self.now) }
+    {
         let hasher: BuildHasherDefault<FoldHasher> = BuildHasherDefault::default();
-        let number = hasher.hash_one(k) as usize % self.shards.len();
-        &self.shards[number]
+        hasher.hash_one(k) as usize % self.shards.len()
     }
 }

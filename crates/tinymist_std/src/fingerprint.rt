@@ -1,5 +1,5 @@
 //! Fingerprints of 128 bits, and their texts in base64.
-ghost use Rattle.std.specs.Prelude.{◌≡◌, ℕ, ◌^◌, ◌%◌, ◌++◌, None, Some, Ok, IfOk, IfErr, IfSome, OnOk, codes, take, string_bytes};
+ghost use Rattle.std.specs.Prelude.{◌≡◌, ℕ, ◌^◌, ◌%◌, ◌<◌, ◌++◌, None, Some, Ok, IfOk, IfErr, IfSome, OnOk, codes, take, string_bytes};
 ghost use Rattle.std.specs.Int.{w64, from_le_bytes};
 ghost use Rattle.base64.specs.GeneralPurpose.{IsBytes};
 ghost use Rattle.tinymist_std.specs.Error.{plain, untold};
@@ -72,10 +72,13 @@ impl Fingerprint {
         Ok(text)
     }
 
-    /// The fingerprint that the text is of. Zeros at the end of its high half may be there or not.
-    /// The error comes exactly where the text is of no fingerprint.
+    /// The fingerprint that the text is of, so that what `as_svg_id` writes without a prefix is read
+    /// back. Zeros at the end of its high half may be there or not. The error comes exactly where
+    /// the text is of no fingerprint.
     pub fn try_from_str(s: &str) -> Result<Fingerprint, Error>
         ensures reads { (f : Halves) → IsTextOf f s.now → result ≡ Ok f }
+        ensures reads_back { (f : Halves) → f.low < 2 ^ 64 → f.high < 2 ^ 64
+            → s.now ≡ svg_id f → result ≡ Ok f }
         ensures only { IfOk result (λ f. IsTextOf f s.now) }
         ensures refused { IfErr result (λ e. e ≡ record {
           place = codes "try_from_str";

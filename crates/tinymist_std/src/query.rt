@@ -1,6 +1,6 @@
 //! Cells that are computed once, whose answers can be relied upon through a note.
 ghost use Rattle.std.specs.Prelude.{◌≡◌, None, Some, Ok, MatchOption};
-ghost use Rattle.std.specs.Option.{option_map};
+ghost use Rattle.std.specs.Option.{ForNone, option_map};
 ghost use Rattle.tinymist_std.specs.Query.{Answers};
 
 use once_cell::race::OnceBox;
@@ -73,14 +73,15 @@ impl<T: Drop, E: Drop, C> QueryRef<T, E, C> {
         }
     }
 
-    /// The value, computed by `f` where there is none yet.
+    /// The value, computed by `f` where there is none yet. Of a query that was made with its value
+    /// this is that value, and `f` isn't called.
     pub fn compute<'a, F: FnOnce() -> Result<T, E> + Drop>(
         &'a self,
         f: F,
         note: &mut Note<T, E>,
     ) -> Result<&'a T, QueryFault<'a, E>>
         requires note { IsNoteOf self.now note.old }
-        requires callable { F.pre f }
+        requires callable { ForNone (known_value self.now) (F.pre f) }
         ensures note { IsNoteOf self.now note.new }
         ensures answer { Answers (known_result self.now note.new) result }
         ensures stays { Stays (known_result self.now note.old) (known_result self.now note.new) }
@@ -91,14 +92,15 @@ impl<T: Drop, E: Drop, C> QueryRef<T, E, C> {
         self.settle(f, note)
     }
 
-    /// The value, computed by `f` of the context where there is none yet.
+    /// The value, computed by `f` of the context where there is none yet. Of a query that was made
+    /// with its value this is that value, and `f` isn't called.
     pub fn compute_with_context<'a, F: FnOnce(&C) -> Result<T, E> + Drop>(
         &'a self,
         f: F,
         note: &mut Note<T, E>,
     ) -> Result<&'a T, QueryFault<'a, E>>
         requires note { IsNoteOf self.now note.old }
-        requires callable { F.IsAlwaysCallable f }
+        requires callable { ForNone (known_value self.now) (F.IsAlwaysCallable f) }
         ensures note { IsNoteOf self.now note.new }
         ensures answer { Answers (known_result self.now note.new) result }
         ensures stays { Stays (known_result self.now note.old) (known_result self.now note.new) }

@@ -1,5 +1,6 @@
 //! Readers that are read to their end.
-ghost use Rattle.std.specs.Prelude.{◌≡◌, ℕ, List, ◌++◌, Option, OnOk, IfSome};
+ghost use Rattle.std.specs.Prelude.{◌≡◌, ◌+◌, ℕ, List, ◌++◌, Option, OnOk, IfOk, IfSome, vec_len};
+ghost use Rattle.std.specs.Io.{StartsWith};
 
 use std::io;
 use std::io::Read;
@@ -9,10 +10,13 @@ pub trait ReadAllOnce {
     // The bytes that are left, where the reader tells them.
     ghost bytes_left: { Self → Option (List ℕ) };
 
-    /// Appends the bytes that are left, and answers their number.
+    /// Appends the bytes that are left, and answers their number. What stood in `buf` stays in any
+    /// case.
     fn read_all(self, buf: &mut Vec<u8>) -> io::Result<usize>
-        ensures { OnOk result (IfSome (bytes_left self)
-            (λ bytes. buf.new.items ≡ buf.old.items ++ bytes)) };
+        ensures bytes { OnOk result (IfSome (bytes_left self)
+            (λ bytes. buf.new.items ≡ buf.old.items ++ bytes)) }
+        ensures count { IfOk result (λ n. vec_len buf.new ≡ vec_len buf.old + n) }
+        ensures appends { StartsWith buf.new.items buf.old.items };
 }
 
 impl<R: Read + Drop> ReadAllOnce for R {

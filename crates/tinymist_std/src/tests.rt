@@ -1,4 +1,5 @@
 //! What no clause says: texts as readers see them, records of a log, and that calls succeed.
+mod files;
 mod fingerprints;
 mod queries;
 mod values;

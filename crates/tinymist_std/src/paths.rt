@@ -1,0 +1,99 @@
+//! Files and folders of the system by their paths, with errors that name the call and the path.
+//!
+//! What a file holds is not proved: these are thin edges over the library's files.
+ghost use Rattle.std.specs.Prelude.{◌≡◌, Ok, IsOkAnd, IfOk, IfErr, MatchResult, codes, string_bytes};
+ghost use Rattle.std.specs.Str.{IsUtf8};
+ghost use Rattle.tinymist_std.specs.Context.{UnlessMemory};
+ghost use Rattle.tinymist_std.specs.Paths.{IsFileFault};
+
+use crate::error::{ErrKind, Error, Result};
+use crate::error_args::ErrorArgs;
+use crate::path_ancestors::PathAncestors;
+use std::alloc::{AllocError, Global};
+use std::env::JoinPathsError;
+use std::io::ErrorKind;
+use std::{env, io};
+
+mod folders;
+mod reading;
+mod writing;
+
+pub use folders::{create_dir_all, remove_dir, remove_dir_all, remove_file, temp_dir_in};
+pub use reading::{metadata, open, read, read_bytes};
+pub use writing::{append, copy, create, write, write_atomic, write_if_changed};
+
+/// The paths as one text for an environment variable, with `:` between. The error, which names the
+/// variable, comes where a path has a `:`.
+pub fn join_paths<R>(_rt: &R, alloc: Global, paths: &[String], env: &str) -> Result<String>
+    ensures { IfErr result (λ e. e.place ≡ codes "join_paths") }
+{
+    let joined: Result<Result<String, JoinPathsError>, AllocError> = env::join_paths(
+        alloc,
+        paths.iter(),
+    );
+    match joined {
+        Ok(Ok(joined)) => Ok(joined),
+        Ok(Err(cause)) => Err(
+            ErrorArgs::new(alloc)
+                .with(alloc, "env", &env)
+                .with(alloc, "error", &cause)
+                .error("join_paths"),
+        ),
+        Err(_) => Err(Error::new("join_paths", ErrKind::OutOfMemory, None)),
+    }
+}
+
+/// The bytes of a path.
+pub fn path2bytes<'p, R>(_rt: &R, path: &'p str) -> Result<&'p [u8]>
+    ensures { IsOkAnd result (λ bytes. bytes.now ≡ path.now) }
+{
+    Ok(path.as_bytes())
+}
+
+/// The path of the bytes. The error comes exactly where they aren't UTF-8.
+pub fn bytes2path<R>(_rt: &R, alloc: Global, bytes: &[u8]) -> Result<String>
+    ensures path { IfOk result (λ path. string_bytes path ≡ bytes.now) }
+    ensures place { IfErr result (λ e. e.place ≡ codes "bytes2path") }
+    ensures refused { IfErr result (λ e. UnlessMemory e.kind (¬ (IsUtf8 bytes.now))) }
+{
+    let Ok(text) = str::from_utf8(bytes) else {
+        return Err(Error::new("bytes2path", ErrKind::None, None));
+    };
+    match String::from_str(alloc, text) {
+        Ok(path) => Ok(path),
+        Err(_) => Err(Error::new("bytes2path", ErrKind::OutOfMemory, None)),
+    }
+}
+
+/// The path and then its parents, up to `stop` where it is one of them, and else to the end.
+pub fn ancestors<'p>(path: &'p str, stop: Option<&'p str>) -> PathAncestors<'p> {
+    PathAncestors::new(path, stop)
+}
+
+/// The result, whose error names the call and the path.
+pub(crate) fn named<T>(
+    alloc: Global,
+    call: &'static str,
+    path: &str,
+    answer: io::Result<T>,
+) -> Result<T>
+    ensures { MatchResult result (λ value. answer ≡ Ok value) (IsFileFault call.now path.now) }
+{
+    match answer {
+        Ok(value) => Ok(value),
+        Err(cause) => Err(fault(alloc, call, path, cause)),
+    }
+}
+
+/// The error of a call that failed at a path, which tells the cause.
+fn fault(alloc: Global, call: &'static str, path: &str, cause: io::Error) -> Error
+    ensures { IsFileFault call.now path.now result }
+{
+    if cause.kind() == ErrorKind::OutOfMemory {
+        return Error::new(call, ErrKind::OutOfMemory, None);
+    }
+    ErrorArgs::new(alloc)
+        .with(alloc, "path", &path)
+        .with(alloc, "error", &cause)
+        .error(call)
+}

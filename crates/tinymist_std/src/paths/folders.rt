@@ -1,0 +1,78 @@
+//! Folders that are made, and files and folders that are removed.
+ghost use Rattle.std.specs.Prelude.{ℕ, ◌⊎◌, List, Ok, Err, IfOk, IfErr, codes};
+ghost use Rattle.std.specs.Borrow.{Bor};
+ghost use Rattle.tinymist_std.specs.Paths.{IsFileFault};
+
+use crate::error::{Error, Result};
+use crate::paths::named;
+use std::alloc::Global;
+use std::io::ErrorKind;
+use std::rt::Files;
+use std::{fs, io};
+
+/// Makes the folder, and each folder above it that is missing.
+pub fn create_dir_all<R: Files>(rt: &R, alloc: Global, path: &str) -> Result<()>
+    ensures { IfErr result (IsFileFault (codes "create_dir_all") path.now) }
+{
+    named(alloc, "create_dir_all", path, fs::create_dir_all(rt, path))
+}
+
+/// Removes the folder with all that it holds.
+pub fn remove_dir_all<R: Files>(rt: &R, alloc: Global, path: &str) -> Result<()>
+    ensures { IfErr result (IsFileFault (codes "remove_dir_all") path.now) }
+{
+    named(
+        alloc,
+        "remove_dir_all",
+        path,
+        fs::remove_dir_all(&(rt, alloc), path),
+    )
+}
+
+/// Removes the folder, which must be empty.
+pub fn remove_dir<R: Files>(rt: &R, alloc: Global, path: &str) -> Result<()>
+    ensures { IfErr result (IsFileFault (codes "remove_dir") path.now) }
+{
+    named(alloc, "remove_dir", path, fs::remove_dir(rt, path))
+}
+
+/// Removes the file.
+pub fn remove_file<R: Files>(rt: &R, alloc: Global, path: &str) -> Result<()>
+    ensures { IfErr result (IsFileFault (codes "remove_file") path.now) }
+{
+    named(alloc, "remove_file", path, fs::remove_file(rt, path))
+}
+
+/// What `f` answers for a new folder below the path, which is removed afterwards.
+pub fn temp_dir_in<R: Files, T, E: Into<Error>, G: FnOnce(&str) -> Result<T, E> + Drop>(
+    rt: &R,
+    alloc: Global,
+    path: &str,
+    f: G,
+) -> Result<T>
+    requires { G.IsAlwaysCallable f }
+    ensures ok { IfOk result (λ value. (folder : Bor (List ℕ)) × G.post f folder (Ok value)) }
+    ensures err { IfErr result (λ error. IsFileFault (codes "temp_dir_in") path.now error
+        ⊎ ((folder : Bor (List ℕ)) × ((e : E) × (G.post f folder (Err e) × E.converts e error)))) }
+{
+    let folder = named(alloc, "temp_dir_in", path, create_below(rt, alloc, path))?;
+    let answer = f(folder.as_str());
+    let _removed = fs::remove_dir_all(&(rt, alloc), folder.as_str());
+    match answer {
+        Ok(value) => Ok(value),
+        Err(error) => Err(error.into()),
+    }
+}
+
+// A new folder below the path.
+fn create_below<R: Files>(rt: &R, alloc: Global, path: &str) -> io::Result<String> {
+    for number in 0..u32::MAX {
+        let folder = format!(in alloc; "{path}/.tmp{number}")?;
+        match fs::create_dir(rt, folder.as_str()) {
+            Ok(()) => return Ok(folder),
+            Err(cause) if cause.kind() == ErrorKind::AlreadyExists => {}
+            Err(cause) => return Err(cause),
+        }
+    }
+    Err(io::Error::from(ErrorKind::AlreadyExists))
+}
