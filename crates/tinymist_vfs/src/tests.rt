@@ -1,5 +1,7 @@
 //! Worked batches and their revisions.
 
+mod versions;
+
 use super::*;
 use std::alloc::Global;
 use std::sync::Arc;
