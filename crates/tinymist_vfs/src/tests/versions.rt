@@ -64,7 +64,10 @@ fn batches_of_every_kind(rt: HostRuntime) -> Result<(), Fail> {
     batch.map_shadow("/w/./a", holding(alloc, "x")?)?;
     batch.map_shadow_by_id(&id, holding(alloc, "y")?)?;
     assert_eq!(rt; batch.finish()?, 3);
-    assert_eq!(rt; live.shadow_paths()?[0].as_str(), "/w/a");
+    assert_eq!(rt; live.shadow_paths()?.len(), 1);
+    for shadow in live.shadow_paths()? {
+        assert_eq!(rt; shadow.as_str(), "/w/a");
+    }
     assert_eq!(rt; live.shadow_ids()?.len(), 1);
     let mut batch = live.revise()?;
     batch.unmap_shadow("/w//a")?;
@@ -130,6 +133,7 @@ fn copies_keep_what_they_saw(rt: HostRuntime) -> Result<(), Fail> {
     let fork = fork_of::<Brand>(&live, &mut tags, Blank::new(1))?;
     assert_eq!(rt; mapped(alloc, &mut live, &[("/w/a", "new")])?, Ok(4));
     let ids = ids_of(alloc, &["/w/a"])?;
+    assert_eq!(rt; ids.len(), 1);
     let mut disk = DummyAccessModel;
     let mut cells = OwnCells::new(&mut disk);
     for (vfs, space, revision, text) in [
