@@ -24,4 +24,6 @@ pub use text::text_of;
 pub use vpath::{PathFault, VirtualPath};
 
 #[cfg(test)]
+mod line_tests;
+#[cfg(test)]
 mod tests;
