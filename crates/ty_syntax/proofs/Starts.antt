@@ -1,9 +1,8 @@
 -- Where lines start: those up to an offset stand first in the table, and all others lie after it.
-use Rattle.std.proofs.Common.{◌≡◌, ℕ, zero, suc, ◌+◌, ◌-◌, ◌<◌, ◌≤◌, Bool, true, false, cond, leb, List, [], ◌∷◌, ◌++◌, length, map, get_or, take, refl, sym, ◌∙◌, ap, subst, inl, inr, arith, rules, leb-true, leb-false}
-use Rattle.std.specs.List.{AllWithin}
+use Rattle.std.proofs.Common.{◌≡◌, ℕ, zero, suc, ◌+◌, ◌<◌, ◌≤◌, Bool, true, false, cond, leb, List, [], ◌∷◌, ◌++◌, length, map, get_or, take, refl, sym, ◌∙◌, ap, subst, inl, inr, arith, leb-true, leb-false}
 use Rattle.std.specs.List.Sorted.{IsPartitionPoint, IsPartitionedBy}
 use Rattle.std.proofs.lemmas.Bool.{cases_lt, le-leb}
-use Rattle.std.proofs.lemmas.List.{append-nil, map-append, get_or_append_left, get_or_push, get_or-map, length-append, length-map, length_push}
+use Rattle.std.proofs.lemmas.List.{append-nil, map-append, get_or_append_left, get_or_push, get_or-map, length-map, length_push}
 use Rattle.ty_syntax.specs.declared.lines.LineStart.{LineStart}
 use Rattle.ty_syntax.specs.Lines.{ends_line, starts_to, line_starts, line_at, start_at}
 use Rattle.ty_syntax.specs.LineTable.{entry, table}

@@ -1,4 +1,4 @@
-use Rattle.std.proofs.Common.{◌≡◌, ◌≤◌, ◌-◌, true, length, take, drop, arith, rules, refl, ap}
+use Rattle.std.proofs.Common.{◌≡◌, true, length, take, arith, refl, ap}
 use Rattle.ty_syntax.specs.Text.{units, between, is_place}
 use Rattle.ty_syntax.specs.Lines.{start_at}
 use Rattle.ty_syntax.proofs.Texts.{is_units, is_units_by_line, units_fit}
