@@ -1,2 +1,4 @@
+pub mod Texts
 pub mod Slashes
 pub mod Below
+pub mod Starts

@@ -6,3 +6,7 @@ pub mod IdOrder
 pub mod IdHash
 pub mod Below
 pub mod VirtualPath
+pub mod Text
+pub mod Lines
+pub mod LineTable
+pub mod Source

@@ -5,17 +5,25 @@ mod bytes;
 mod entry;
 mod error;
 mod id;
+mod lines;
+mod source;
 mod spec;
 mod tags;
+mod text;
 mod vpath;
 
 pub use bytes::Bytes;
 pub use entry::{detached_entry, memory_main_entry};
 pub use error::{FileError, FileFault, FileResult, PackageError};
 pub use id::{FileId, Root};
+pub use lines::Lines;
+pub use source::{EditFault, Source};
 pub use spec::{PackageSpec, PackageVersion, VersionlessPackageSpec};
 pub use tags::{TagFault, Tags};
+pub use text::text_of;
 pub use vpath::{PathFault, VirtualPath};
 
+#[cfg(test)]
+mod line_tests;
 #[cfg(test)]
 mod tests;

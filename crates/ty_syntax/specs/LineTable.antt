@@ -1,0 +1,11 @@
+-- The table of a text: each line's start with the UTF-16 code units before it.
+use Rattle.std.specs.Prelude.{ℕ, List, map, take}
+use Rattle.ty_syntax.specs.declared.lines.LineStart.{LineStart}
+use Rattle.ty_syntax.specs.Text.{units}
+use Rattle.ty_syntax.specs.Lines.{line_starts}
+
+abbrev pub entry : List ℕ → ℕ → LineStart
+entry text start = record { byte = start; utf16 = units (take start text) }
+
+abbrev pub table : List ℕ → List LineStart
+table text = map (entry text) (line_starts text)

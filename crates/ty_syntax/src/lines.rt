@@ -1,0 +1,176 @@
+//! The lines of a text, found by a table of their starts.
+ghost use Rattle.std.specs.Prelude.{◌≡◌, ◌<◌, ◌≤◌, length, IfOk, IfSome, slice_get, slice_index};
+ghost use Rattle.std.specs.Option.{option_map};
+ghost use Rattle.ty_syntax.specs.LineTable.{entry, table};
+ghost use Rattle.ty_syntax.specs.Lines.{ends_line, line_starts, line_at, line_of, line_range, place, units_before, units_by_line, start_at};
+
+use crate::text::{characters, is_place, units, units_of};
+use std::alloc::Global;
+use std::marker::Model;
+use ty_path::OutOfMemory;
+
+/// Where a line starts.
+#[derive(Clone, Copy, Debug, PartialEq, Eq)]
+struct LineStart {
+    byte: usize,
+    /// The UTF-16 code units before it.
+    utf16: usize,
+}
+
+/// The lines of a text. A look-up searches the table of their starts, and reads one line at most. Contracts see the
+/// text.
+#[derive(Drop)]
+pub struct Lines {
+    text: String,
+    starts: Vec<LineStart>,
+}
+
+impl Model for Lines {
+    ghost use Rattle.std.specs.Prelude.{◌≡◌, List, ℕ};
+    ghost use Rattle.std.specs.String.{string_bytes};
+
+    ghost Value = { List ℕ };
+
+    ghost use Rattle.ty_syntax.specs.LineTable.{table};
+
+    ghost view = { λ l. string_bytes l.text };
+
+    ghost invariant = { λ l. l.starts.items ≡ table (string_bytes l.text) };
+}
+
+impl Lines {
+    ghost use Rattle.std.specs.String.{string_bytes};
+
+    /// The lines of this text.
+    pub(crate) fn new(alloc: Global, text: String) -> Result<Lines, OutOfMemory>
+        ensures { IfOk result (λ lines. lines ≡ string_bytes text) }
+    {
+        let starts = line_starts(alloc, text.as_str())?;
+        Ok(Lines { text, starts })
+    }
+
+    /// The text.
+    pub(crate) fn text(&self) -> &str
+        ensures { result.now ≡ self.now }
+    {
+        self.text.as_str()
+    }
+
+    /// The line of a byte: `None` exactly past the text's end.
+    pub fn byte_to_line(&self, byte: usize) -> Option<usize>
+        ensures { result ≡ line_of self.now byte }
+    {
+        if byte > self.len_bytes() {
+            return None;
+        }
+        Some(self.line_at(byte))
+    }
+
+    /// The characters from the line's start: `None` exactly past the text's end and inside a character.
+    pub fn byte_to_column(&self, byte: usize) -> Option<usize>
+        ensures { result ≡ option_map (λ at. at.column) (place self.now byte) }
+    {
+        if !is_place(self.text.as_str(), byte) {
+            return None;
+        }
+        let start = self.start_at(byte);
+        Some(characters(&self.text.as_bytes()[start.byte..byte]))
+    }
+
+    /// The UTF-16 code units from the text's start: `None` exactly past the text's end and inside a character.
+    pub fn byte_to_utf16(&self, byte: usize) -> Option<usize>
+        ensures value { result ≡ units_before self.now byte }
+        ensures line { result ≡ units_by_line self.now byte }
+    {
+        if !is_place(self.text.as_str(), byte) {
+            return None;
+        }
+        let start = self.start_at(byte);
+        Some(start.utf16 + units(&self.text.as_bytes()[start.byte..byte]))
+    }
+
+    /// Where a line starts: `None` exactly where there is no such line.
+    pub fn line_to_byte(&self, line: usize) -> Option<usize>
+        ensures { result ≡ slice_get (line_starts self.now) line }
+    {
+        let start = self.starts.get(line)?;
+        Some(start.byte)
+    }
+
+    /// From where a line starts to where the next one does, or to the text's end: `None` exactly where there is no
+    /// such line.
+    pub fn line_to_range(&self, line: usize) -> Option<(usize, usize)>
+        ensures { result ≡ line_range self.now line }
+    {
+        let start = self.starts.get(line)?;
+        let end = match self.starts.get(line + 1) {
+            Some(next) => next.byte,
+            None => self.len_bytes(),
+        };
+        Some((start.byte, end))
+    }
+
+    /// How many lines there are, the one after the last line end too.
+    pub fn len_lines(&self) -> usize
+        ensures { result ≡ length (line_starts self.now) }
+    {
+        self.starts.len()
+    }
+
+    /// How many bytes the text has.
+    pub fn len_bytes(&self) -> usize
+        ensures { result ≡ length self.now }
+    {
+        self.text.len()
+    }
+
+    fn line_at(&self, byte: usize) -> usize
+        requires { byte ≤ length self.now }
+        ensures value { result ≡ line_at self.now byte }
+        ensures within { result < length (line_starts self.now) }
+    {
+        self.starts.partition_point(|start| start.byte <= byte) - 1
+    }
+
+    fn start_at(&self, byte: usize) -> LineStart
+        requires { byte ≤ length self.now }
+        ensures start { result ≡ entry self.now (start_at self.now byte) }
+        ensures before { result.byte ≤ byte }
+    {
+        self.starts[self.line_at(byte)]
+    }
+}
+
+/// The starts of the lines of a text, in order.
+fn line_starts(alloc: Global, text: &str) -> Result<Vec<LineStart>, OutOfMemory>
+    ensures { IfOk result (λ starts. starts.items ≡ table text.now) }
+{
+    let bytes = text.as_bytes();
+    let mut starts = Vec::new(alloc);
+    starts.push(LineStart { byte: 0, utf16: 0 })?;
+    let mut utf16 = 0;
+    for (at, byte) in bytes.iter().enumerate() {
+        utf16 += units_of(*byte);
+        if ends_line(bytes, at) {
+            starts.push(LineStart {
+                byte: at + 1,
+                utf16,
+            })?;
+        }
+    }
+    Ok(starts)
+}
+
+/// Whether a line ends with the byte at this place.
+fn ends_line(text: &[u8], at: usize) -> bool
+    requires { at < length text.now }
+    ensures { result ≡ ends_line text.now at }
+{
+    match text[at] {
+        b'\n' | 0x0B | 0x0C => true,
+        b'\r' => at + 1 == text.len() || text[at + 1] != b'\n',
+        0x85 => at >= 1 && text[at - 1] == 0xC2,
+        0xA8 | 0xA9 => at >= 2 && text[at - 1] == 0x80 && text[at - 2] == 0xE2,
+        _ => false,
+    }
+}

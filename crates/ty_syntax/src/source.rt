@@ -1,0 +1,135 @@
+//! Sources: a file's id with its text and the lines of it.
+ghost use Rattle.std.specs.Prelude.{◌≡◌, ◌↔◌, IfOk, OnErr, IsErrOf, IsFalse};
+ghost use Rattle.std.specs.String.{string_bytes};
+ghost use Rattle.std.specs.Arc.{arc_value};
+ghost use Rattle.ty_syntax.specs.Text.{is_span, spliced};
+
+use crate::id::FileId;
+use crate::lines::Lines;
+use crate::text::{is_span, spliced};
+use std::alloc::Global;
+use std::marker::Model;
+use std::sync::Arc;
+use ty_path::{OutOfMemory, Share};
+
+/// Why a text wasn't edited.
+#[derive(Clone, Copy, Debug, PartialEq, Eq)]
+pub enum EditFault {
+    /// The offsets are no span of the text.
+    Range,
+    /// No memory was left.
+    OutOfMemory,
+}
+
+impl From<OutOfMemory> for EditFault {
+    ghost use Rattle.ty_syntax.specs.declared.source.EditFault.TheVariants.{OutOfMemory as no_memory};
+
+    ghost from_gives = { λ _ fault. fault ≡ no_memory };
+
+    fn from(_: OutOfMemory) -> Self {
+        EditFault::OutOfMemory
+    }
+}
+
+/// A file's id and text. Shares of a source have one text and one table of lines. Contracts see the id and the text.
+#[derive(Drop)]
+pub struct Source {
+    id: FileId,
+    lines: Arc<Lines>,
+}
+
+impl Model for Source {
+    ghost use Rattle.std.specs.Arc.{arc_value};
+    ghost use Rattle.ty_syntax.specs.Source as plain;
+
+    ghost Value = { plain.Source };
+
+    ghost view = { λ s. record { id = s.id; text = arc_value s.lines } };
+}
+
+impl Source {
+    /// The source of this id and text.
+    pub fn new(alloc: Global, id: FileId, text: String) -> Result<Source, OutOfMemory>
+        ensures { IfOk result (λ source. source ≡ record { id = id; text = string_bytes text }) }
+    {
+        Ok(Source {
+            id,
+            lines: lines_of(alloc, text)?,
+        })
+    }
+
+    pub fn id(&self) -> &FileId
+        ensures { result.now ≡ self.now.id }
+    {
+        &self.id
+    }
+
+    pub fn text(&self) -> &str
+        ensures { result.now ≡ self.now.text }
+    {
+        self.lines.text()
+    }
+
+    /// The lines of the text.
+    pub fn lines(&self) -> &Lines
+        ensures { result.now ≡ self.now.text }
+    {
+        &self.lines
+    }
+
+    /// Puts another text in place of this one. A refusal changes nothing.
+    pub fn replace(&mut self, alloc: Global, text: &str) -> Result<(), OutOfMemory>
+        ensures ok { IfOk result (λ _. self.new ≡ record self.old { text = text.now }) }
+        ensures err { OnErr result (self.new ≡ self.old) }
+    {
+        self.lines = lines_of(alloc, String::from_str(alloc, text)?)?;
+        Ok(())
+    }
+
+    /// Puts a text in place of the one from one offset to another. A refusal changes nothing.
+    ///
+    /// # Errors
+    ///
+    /// `Range` exactly where the first offset is past the second, the second is past the text's end, or one of them
+    /// lies inside a character.
+    pub fn edit(
+        &mut self,
+        alloc: Global,
+        from: usize,
+        to: usize,
+        with: &str,
+    ) -> Result<(), EditFault>
+        ensures ok { IfOk result (λ _. self.new ≡ record self.old { text = spliced self.old.text from to with.now }) }
+        ensures err { OnErr result (self.new ≡ self.old) }
+        ensures range { IsErrOf result EditFault.Range ↔ IsFalse (is_span self.old.text from to) }
+    {
+        let text = self.lines.text();
+        if !is_span(text, from, to) {
+            return Err(EditFault::Range);
+        }
+        let text = spliced(alloc, text, from, to, with)?;
+        self.lines = lines_of(alloc, text)?;
+        Ok(())
+    }
+}
+
+impl Share for Source {
+    ghost use Rattle.ty_syntax.specs.Source as plain;
+
+    ghost Seen = { plain.Source };
+
+    ghost seen = { λ s. s };
+
+    fn share(&self, alloc: Global) -> Result<Source, OutOfMemory> {
+        Ok(Source {
+            id: self.id.share(alloc)?,
+            lines: Arc::try_clone(&self.lines)?,
+        })
+    }
+}
+
+fn lines_of(alloc: Global, text: String) -> Result<Arc<Lines>, OutOfMemory>
+    ensures { IfOk result (λ lines. arc_value lines ≡ string_bytes text) }
+{
+    Ok(Arc::new(alloc, Lines::new(alloc, text)?)?)
+}
