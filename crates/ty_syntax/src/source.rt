@@ -58,12 +58,14 @@ impl Source {
         })
     }
 
+    /// The id of the file.
     pub fn id(&self) -> &FileId
         ensures { result.now ≡ self.now.id }
     {
         &self.id
     }
 
+    /// The text.
     pub fn text(&self) -> &str
         ensures { result.now ≡ self.now.text }
     {
