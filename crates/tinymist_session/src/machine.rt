@@ -1,11 +1,12 @@
 //! The machine that answers commands: the live state, and the views taken of it.
-ghost use Rattle.std.specs.Prelude.{◌≡◌, ◌+◌, ◌-◌, ◌^◌, ◌<◌, ◌≤◌, ◌++◌, ◌∷◌, [], length, map, Option, IfOk, OnOk, OnErr, Some, Err};
+ghost use Rattle.std.specs.Prelude.{◌≡◌, ◌≢◌, ◌+◌, ◌-◌, ◌^◌, ◌<◌, ◌≤◌, ◌++◌, ◌∷◌, [], length, map, ℕ, Option, IfOk, OnOk, OnErr, Some, Err};
 ghost use Rattle.std.specs.Option.{option_map, option_copied};
 ghost use Rattle.std.specs.String.{string_bytes};
 ghost use Rattle.std.specs.FinMap as finmap;
 ghost use Rattle.ty_model.specs.Places.{id_by_parent};
 ghost use Rattle.ty_model.specs.LookUp.{look, decision};
 ghost use Rattle.ty_model.specs.Disk.{Told, IsFixed};
+ghost use Rattle.ty_model.specs.Space.{Space};
 ghost use Rattle.ty_path.specs.Shared.{path_text};
 ghost use Rattle.tinymist_vfs.specs.Items.{items_of};
 ghost use Rattle.tinymist_vfs.specs.Commits.{committed};
@@ -58,6 +59,7 @@ impl Machine {
     }
 
     /// Answers a command.
+    #[tactic(auto, using(crate::proofs::Others::others))]
     pub(crate) fn step<M: PathAccessModel>(
         &mut self,
         disk: &mut M,
@@ -67,6 +69,7 @@ impl Machine {
         requires space { self.old.tags.next_space < 2 ^ 64 - 1 }
         ensures reply { (told : Told) (s : plain.State) → M.told disk.old ≡ Some told → IsShown self.old.live self.old.views.items self.old.tags s → IfOk result (λ r. reply_of r ≡ (plain.step s told (command_of command)).reply) }
         ensures state { (told : Told) (s : plain.State) → M.told disk.old ≡ Some told → IsShown self.old.live self.old.views.items self.old.tags s → OnOk result (IsShown self.new.live self.new.views.items self.new.tags (plain.step s told (command_of command)).state) }
+        ensures others { (told : Told) (s : plain.State) (k : ℕ) (space : Space) → plain.target_of (command_of command) ≢ Some k → plain.space_at s k ≡ Some space → plain.space_at (plain.step s told (command_of command)).state k ≡ Some space }
         ensures left { (told : Told) → M.told disk.old ≡ Some told → IsFixed told → M.told disk.new ≡ Some told }
         ensures revision { top_revision self.new.live self.new.views.items ≤ top_revision self.old.live self.old.views.items + 1 }
         ensures space { self.new.tags.next_space ≤ self.old.tags.next_space + 1 }
