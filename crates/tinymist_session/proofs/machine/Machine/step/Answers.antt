@@ -1,6 +1,8 @@
 use Rattle.std.proofs.Common.{◌≡◌, ◌∙◌}
 use Rattle.std.proofs.lemmas.Result.{IfOk-weaker}
 use Rattle.std.specs.String.{string_bytes}
+use Rattle.tinymist_session.specs.Said.{command_of}
+use Rattle.tinymist_session.proofs.Others.{others}
 use Rattle.tinymist_session.proofs.Reading.{read_replies, read_shows}
 use Rattle.tinymist_session.proofs.machine.Machine.step.Goals as goal
 
@@ -11,3 +13,9 @@ returns-in-Read-clause-reply g c = λ told s is shown.
 pub returns-in-Read-clause-state : goal.returns-in-Read-clause-state
 returns-in-Read-clause-state g c = λ told s is shown.
     rw c.in-Read.is (IfOk-weaker c.read_view.result _ _ (λ r same. read_shows s told c.in-Read.view (string_bytes c.in-Read.path.text) c.args.self.now.live c.args.self.now.views.items c.args.self.now.tags shown) (c.read_view.ensures.reply told is))
+
+pub returns-in-Edit-clause-others : goal.returns-in-Edit-clause-others
+returns-in-Edit-clause-others g c = λ told s k space other there. others s space told (command_of c.args.command) k other there
+
+pub returns-in-Read-clause-others : goal.returns-in-Read-clause-others
+returns-in-Read-clause-others g c = λ told s k space other there. others s space told (command_of c.args.command) k other there
