@@ -3,6 +3,10 @@ pub mod Lfs
 pub mod Known
 pub mod Decimals
 pub mod Reading
+pub mod Changing
+pub mod Edits
+pub mod Others
+pub mod Tabs
 pub mod Fixed
 pub mod Lines
 pub mod Passes

@@ -33,13 +33,13 @@ views_same views k view id e = map-set_same space_shown views k (with_asked id v
 
 -- ---- the reply, by what is shown
 
-abbrev shown_at : List (ℕ × Version) → ℕ → Option (ℕ × Version)
+abbrev pub shown_at : List (ℕ × Version) → ℕ → Option (ℕ × Version)
 shown_at views k = cond (k == 0) None (slice_get views (k - 1))
 
-shown_at-kept : (views : List (Kept MockRootResolver)) (k : ℕ) → option_map shown (kept_at views k) ≡ shown_at (map shown views) k
+pub shown_at-kept : (views : List (Kept MockRootResolver)) (k : ℕ) → option_map shown (kept_at views k) ≡ shown_at (map shown views) k
 shown_at-kept views k = elim (k == 0) as (λ b. option_map shown (cond b None (slice_get views (k - 1))) ≡ cond b None (slice_get (map shown views) (k - 1))) [ true ↦ refl | false ↦ sym (slice_get-map shown views (k - 1)) ]
 
-shown_at-spaces : (views : List Space) (k : ℕ) → shown_at (map space_shown views) k ≡ option_map space_shown (view_at views k)
+pub shown_at-spaces : (views : List Space) (k : ℕ) → shown_at (map space_shown views) k ≡ option_map space_shown (view_at views k)
 shown_at-spaces views k = elim (k == 0) as (λ b. cond b None (slice_get (map space_shown views) (k - 1)) ≡ option_map space_shown (cond b None (slice_get views (k - 1)))) [ true ↦ refl | false ↦ slice_get-map space_shown views (k - 1) ]
 
 abbrev reply_by : Option (ℕ × Version) → Told → Option Id → Reply

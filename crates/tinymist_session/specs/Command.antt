@@ -1,13 +1,21 @@
 -- The commands of a session.
 use Rattle.std.specs.Prelude.{ℕ, List}
-use Rattle.ty_model.specs.Values.{Answer}
+use Rattle.ty_model.specs.Values.{Refusal}
+use Rattle.ty_model.specs.Batch.{Item}
 
 -- an id as it is written in a line
 pub data IdWord : Type 0 where
   PathWord : (path : List ℕ) → IdWord
 
+-- a content as it is written in a line: the bytes of a file, a missing file, or another refusal
+pub data ContentWord : Type 0 where
+  BytesWord : (bytes : List ℕ) → ContentWord
+  MissingWord : ContentWord
+  RefusedWord : (refusal : Refusal) → ContentWord
+
 -- what a line asks for. A target is 0 for the live state, and else the number of a view
 pub data Command : Type 0 where
-  MapPath : (target : ℕ) (path : List ℕ) (answer : Answer) → Command
+  Edit : (target : ℕ) (item : Item) → Command
   Snapshot : Command
   Read : (view : ℕ) (id : IdWord) → Command
+  Paths : (target : ℕ) → Command

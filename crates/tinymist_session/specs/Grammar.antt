@@ -1,13 +1,14 @@
 -- What a line reads as: its text, its fields, and a case for each sentence.
-use Rattle.std.specs.Prelude.{ℕ, ◌+◌, ◌-◌, ◌*◌, ◌^◌, ◌==◌, ◌&&◌, ◌||◌, nat_lt, nat_le, not, Bool, if◌then◌else◌, List, [], ◌∷◌, codes, Option, Some, None}
-use Rattle.std.specs.Option.{option_map, option_and_then}
+use Rattle.std.specs.Prelude.{ℕ, ◌+◌, ◌-◌, ◌*◌, ◌^◌, ◌==◌, ◌&&◌, ◌||◌, nat_lt, nat_le, not, Bool, if◌then◌else◌, List, [], ◌∷◌, ◌++◌, codes, Option, Some, None}
+use Rattle.std.specs.Option.{option_map, option_and_then, option_or}
 use Rattle.std.specs.Result.{result_ok}
 use Rattle.std.specs.List.{list_all}
 use Rattle.std.specs.Str.{is_utf8, bytes_eq}
 use Rattle.hex.specs.Hex.{decode_of}
-use Rattle.ty_model.specs.Values.{Answer, Content}
+use Rattle.ty_model.specs.Values.{Answer, Content, Refused, NotFound, AccessDenied, IsDirectory, NotSource, InvalidUtf8, Other}
+use Rattle.ty_model.specs.Batch.{MapPath, UnmapPath, Clear, ChangeSet}
 use Rattle.ty_model.specs.Paths.{parts_at, is_absolute, clean}
-use Rattle.tinymist_session.specs.Command.{IdWord, PathWord, Command, MapPath, Snapshot, Read}
+use Rattle.tinymist_session.specs.Command.{IdWord, PathWord, ContentWord, BytesWord, MissingWord, RefusedWord, Command, Edit, Snapshot, Read, Paths}
 
 -- ---- words
 
@@ -29,30 +30,98 @@ number_of (d ∷ e ∷ ds) = if d == 48 then None else option_and_then fits_64 (
 abbrev pub path_of : List ℕ → Option (List ℕ)
 path_of word = if is_absolute word && bytes_eq word (clean word) then Some word else None
 
--- = and hexadecimal digits of either case, two for each byte
-abbrev pub content_of : List ℕ → Option Answer
-content_of [] = None
-content_of (b ∷ digits) = if b == 61 then option_map Content (result_ok (decode_of digits)) else None
+-- what stands after a sign
+abbrev pub after_sign : ℕ → List ℕ → Option (List ℕ)
+after_sign sign [] = None
+after_sign sign (b ∷ rest) = if b == sign then Some rest else None
+
+-- hexadecimal digits of either case, two for each byte
+abbrev pub bytes_of : List ℕ → Option ContentWord
+bytes_of digits = option_map BytesWord (result_ok (decode_of digits))
+
+-- = and the digits of the bytes, or ! and the name of an error
+abbrev pub content_of : List ℕ → Option ContentWord
+content_of word =
+    if bytes_eq word (codes "!not-found") then Some MissingWord
+    else if bytes_eq word (codes "!access-denied") then Some (RefusedWord AccessDenied)
+    else if bytes_eq word (codes "!is-directory") then Some (RefusedWord IsDirectory)
+    else if bytes_eq word (codes "!not-source") then Some (RefusedWord NotSource)
+    else if bytes_eq word (codes "!invalid-utf8") then Some (RefusedWord InvalidUtf8)
+    else if bytes_eq word (codes "!other") then Some (RefusedWord (Other None))
+    else option_and_then bytes_of (after_sign 61 word)
+
+-- what a content says of a path: a missing file is missing there
+abbrev pub answer_at : List ℕ → ContentWord → Answer
+answer_at path (BytesWord bytes) = Content bytes
+answer_at path MissingWord = Refused (NotFound path)
+answer_at path (RefusedWord refusal) = Refused refusal
 
 -- an id: a path
 abbrev pub id_of : List ℕ → Option IdWord
 id_of word = option_map PathWord (path_of word)
 
--- the target of an edit: 0, the live state
-abbrev pub target_of : List ℕ → Option ℕ
-target_of word = if bytes_eq word (codes "0") then Some 0 else None
+-- ---- a change set: words of removed paths, and words of paths each with its content
+
+-- paths that are no longer told, and files that are
+pub record Changes : Type 0 where
+  pub removes : List (List ℕ)
+  pub inserts : List (List ℕ × Answer)
+
+abbrev pub no_changes : Changes
+no_changes = record { removes = []; inserts = [] }
+
+-- these changes and those, each list in its order
+abbrev pub with_changes : Changes → Changes → Changes
+with_changes a b = record { removes = a.removes ++ b.removes; inserts = a.inserts ++ b.inserts }
+
+-- both, where there are both
+abbrev pub joined : Option Changes → Option Changes → Option Changes
+joined (Some a) (Some b) = Some (with_changes a b)
+joined a b = None
+
+abbrev pub removing : List ℕ → Changes
+removing path = record { removes = path ∷ []; inserts = [] }
+
+abbrev pub telling : List ℕ → Answer → Changes
+telling path answer = record { removes = []; inserts = (path, answer) ∷ [] }
+
+-- - and a path
+abbrev pub removal_of : List ℕ → Option Changes
+removal_of word = option_map removing (option_and_then path_of (after_sign 45 word))
+
+abbrev pub told_of : Option (List ℕ) → Option ContentWord → Option Changes
+told_of (Some path) (Some content) = Some (telling path (answer_at path content))
+told_of path content = None
+
+-- + and a path, and then its content
+abbrev pub file_of : List ℕ → List ℕ → Option Changes
+file_of word content = told_of (option_and_then path_of (after_sign 43 word)) (content_of content)
+
+-- the changes that all these fields write
+abbrev pub changes_of : List (List ℕ) → Option Changes
+changes_of [] = Some no_changes
+changes_of (word ∷ []) = joined (removal_of word) (Some no_changes)
+changes_of (word ∷ next ∷ fields) = option_or (joined (removal_of word) (changes_of (next ∷ fields))) (joined (file_of word next) (changes_of fields))
 
 -- ---- a case for each sentence: what stands after its first word
 
-abbrev pub map_of : Option ℕ → Option (List ℕ) → Option Answer → Option Command
-map_of (Some target) (Some path) (Some answer) = Some (MapPath target path answer)
-map_of target path answer = None
+abbrev pub map_of : Option ℕ → Option (List ℕ) → Option ContentWord → Option Command
+map_of (Some target) (Some path) (Some content) = Some (Edit target (MapPath path (answer_at path content)))
+map_of target path content = None
+
+abbrev pub unmap_of : Option ℕ → Option (List ℕ) → Option Command
+unmap_of (Some target) (Some path) = Some (Edit target (UnmapPath path))
+unmap_of target path = None
 
 abbrev pub read_of : Option ℕ → Option IdWord → Option Command
 read_of (Some view) (Some id) = Some (Read view id)
 read_of view id = None
 
--- both, where there are two; all three, where there are three
+-- the one, where there is one; both, where there are two; all three, where there are three
+abbrev pub one_of : List (List ℕ) → Option (List ℕ)
+one_of (a ∷ []) = Some a
+one_of fields = None
+
 abbrev pub two_of : List (List ℕ) → Option (List ℕ × List ℕ)
 two_of (a ∷ b ∷ []) = Some (a, b)
 two_of fields = None
@@ -63,7 +132,23 @@ three_of fields = None
 
 -- map TARGET PATH CONTENT
 abbrev pub map_sentence : List (List ℕ) → Option Command
-map_sentence fields = option_and_then (λ f. map_of (target_of f.0) (path_of f.1) (content_of f.2)) (three_of fields)
+map_sentence fields = option_and_then (λ f. map_of (number_of f.0) (path_of f.1) (content_of f.2)) (three_of fields)
+
+-- unmap TARGET PATH
+abbrev pub unmap_sentence : List (List ℕ) → Option Command
+unmap_sentence fields = option_and_then (λ f. unmap_of (number_of f.0) (path_of f.1)) (two_of fields)
+
+-- clear TARGET
+abbrev pub clear_sentence : List (List ℕ) → Option Command
+clear_sentence fields = option_map (λ target. Edit target Clear) (option_and_then number_of (one_of fields))
+
+-- notify, and any of -PATH and +PATH CONTENT: one change set on the live state
+abbrev pub notify_sentence : List (List ℕ) → Option Command
+notify_sentence fields = option_map (λ c. Edit 0 (ChangeSet c.removes c.inserts)) (changes_of fields)
+
+-- paths TARGET
+abbrev pub paths_sentence : List (List ℕ) → Option Command
+paths_sentence fields = option_map Paths (option_and_then number_of (one_of fields))
 
 -- snapshot
 abbrev pub snapshot_sentence : List (List ℕ) → Option Command
@@ -81,6 +166,10 @@ sentence_of (word ∷ fields) =
     if bytes_eq word (codes "map") then map_sentence fields
     else if bytes_eq word (codes "snapshot") then snapshot_sentence fields
     else if bytes_eq word (codes "read") then read_sentence fields
+    else if bytes_eq word (codes "unmap") then unmap_sentence fields
+    else if bytes_eq word (codes "clear") then clear_sentence fields
+    else if bytes_eq word (codes "notify") then notify_sentence fields
+    else if bytes_eq word (codes "paths") then paths_sentence fields
     else None
 
 -- ---- lines

@@ -7,6 +7,7 @@ pub mod Command
 pub mod Grammar
 pub mod Reply
 pub mod Machine
+pub mod ChangeSets
 pub mod Said
 pub mod Shown
 pub mod Session

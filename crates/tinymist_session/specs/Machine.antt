@@ -2,15 +2,15 @@
 use Rattle.std.specs.Prelude.{ℕ, ◌+◌, ◌-◌, ◌==◌, ◌&&◌, not, true, if◌then◌else◌, List, [], ◌∷◌, ◌++◌, length, slice_get, slice_set, Option, Some, None}
 use Rattle.std.specs.List.{list_any}
 use Rattle.std.specs.FinMap as map
-use Rattle.ty_model.specs.Values.{Id, Answer}
+use Rattle.ty_model.specs.Values.{Id}
 use Rattle.ty_model.specs.Places.{id_by_parent, detached_entry, memory_main_entry}
 use Rattle.ty_model.specs.Disk.{Told}
 use Rattle.ty_model.specs.Version.{first_version, same_id}
-use Rattle.ty_model.specs.Batch as batch
+use Rattle.ty_model.specs.Batch.{Item}
 use Rattle.ty_model.specs.LookUp.{look}
 use Rattle.ty_model.specs.Space.{Space, after_commit, snapshot_of}
-use Rattle.tinymist_session.specs.Command.{Command, MapPath, Snapshot, Read, IdWord, PathWord}
-use Rattle.tinymist_session.specs.Reply.{Reply, AtRevision, ViewNumber, BadView, BadId, reply_to}
+use Rattle.tinymist_session.specs.Command.{Command, Edit, Snapshot, Read, Paths, IdWord, PathWord}
+use Rattle.tinymist_session.specs.Reply.{Reply, AtRevision, ViewNumber, PathList, BadView, BadId, reply_to}
 
 -- the live space, the views with view 1 first, and what is drawn next
 pub record State : Type 0 where
@@ -43,15 +43,32 @@ id_for (PathWord path) = id_by_parent path
 abbrev pub view_at : List Space → ℕ → Option Space
 view_at views k = if k == 0 then None else slice_get views (k - 1)
 
+-- the space of a target: the live one for 0, and else a view
+abbrev pub space_at : State → ℕ → Option Space
+space_at s target = if target == 0 then Some s.live else view_at s.views target
+
+-- the state with this space at a target
+abbrev pub with_space : State → ℕ → Space → State
+with_space s target space = if target == 0 then record s { live = space } else record s { views = slice_set s.views (target - 1) space }
+
 -- the id is asked for, where the space is compiling and it wasn't before
 abbrev pub with_asked : Id → Space → Space
 with_asked id s = if s.compiling && not (list_any (same_id id) s.asked) then record s { asked = s.asked ++ id ∷ [] } else s
 
--- an edit commits a batch of one item on its target
-abbrev pub map_step : State → List ℕ → Answer → Stepped
-map_step s path answer =
-    let live = after_commit s.live (batch.MapPath path answer ∷ []) in
-    record { state = record s { live = live }; reply = AtRevision live.now.revision }
+-- an edit commits a batch of one item on its target, and leaves all other spaces as they are
+abbrev pub edit_in : State → ℕ → Item → Option Space → Stepped
+edit_in s target item None = record { state = s; reply = BadView }
+edit_in s target item (Some space) =
+    let edited = after_commit space (item ∷ []) in
+    record { state = with_space s target edited; reply = AtRevision edited.now.revision }
+
+abbrev pub edit_step : State → ℕ → Item → Stepped
+edit_step s target item = edit_in s target item (space_at s target)
+
+-- the paths of the overlay of a target, ascending
+abbrev pub paths_reply : Option Space → Reply
+paths_reply None = BadView
+paths_reply (Some space) = PathList (map.keys space.now.layers.by_path)
 
 -- a snapshot copies the live space under a fresh number
 abbrev pub snapshot_step : State → Stepped
@@ -74,6 +91,14 @@ read_step s disk k word (Some view) = read_in s disk k view (id_for word)
 
 -- a step of a state over a disk
 abbrev pub step : State → Told → Command → Stepped
-step s disk (MapPath target path answer) = map_step s path answer
+step s disk (Edit target item) = edit_step s target item
 step s disk Snapshot = snapshot_step s
 step s disk (Read k word) = read_step s disk k word (view_at s.views k)
+step s disk (Paths target) = record { state = s; reply = paths_reply (space_at s target) }
+
+-- the space that a command may change, if any
+abbrev pub target_of : Command → Option ℕ
+target_of (Edit target item) = Some target
+target_of Snapshot = None
+target_of (Read view word) = Some view
+target_of (Paths target) = None

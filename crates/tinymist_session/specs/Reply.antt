@@ -1,5 +1,5 @@
 -- The replies of a session, and the line of each.
-use Rattle.std.specs.Prelude.{ℕ, List, [], ◌∷◌, ◌++◌, codes, Option}
+use Rattle.std.specs.Prelude.{ℕ, List, [], ◌∷◌, ◌++◌, codes}
 use Rattle.std.specs.Fmt.{decimal}
 use Rattle.hex.specs.Hex.{encode_lower}
 use Rattle.ty_model.specs.Values.{Answer, Content, Refused, Refusal, NotFound, AccessDenied, IsDirectory, NotSource, InvalidUtf8, OfPackage, Other}
@@ -9,6 +9,7 @@ pub data Reply : Type 0 where
   ViewNumber : (number : ℕ) → Reply
   Contents : (bytes : List ℕ) → Reply
   Fails : (refusal : Refusal) → Reply
+  PathList : (paths : List (List ℕ)) → Reply
   BadView : Reply
   BadId : Reply
 
@@ -33,6 +34,7 @@ fields_of (AtRevision revision) = codes "ok" ∷ decimal revision ∷ []
 fields_of (ViewNumber number) = codes "view" ∷ decimal number ∷ []
 fields_of (Contents bytes) = codes "bytes" ∷ encode_lower bytes ∷ []
 fields_of (Fails refusal) = codes "fail" ∷ fail_word refusal ∷ []
+fields_of (PathList paths) = codes "paths" ∷ paths
 fields_of BadView = codes "err" ∷ codes "view" ∷ []
 fields_of BadId = codes "err" ∷ codes "id" ∷ []
 

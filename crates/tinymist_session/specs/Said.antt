@@ -1,29 +1,55 @@
 -- Commands and replies of the code as those of the definitions.
-use Rattle.std.specs.Prelude.{ℕ, List, [], ◌∷◌, Option, Some, None}
+use Rattle.std.specs.Prelude.{◌≡◌, ℕ, ◌<◌, List, [], map, length, Option, Some, None}
 use Rattle.std.specs.String.{string_bytes}
 use Rattle.std.specs.Borrow.{Bor}
-use Rattle.ty_model.specs.Values.{Content}
+use Rattle.ty_model.specs.Batch as batch
 use Rattle.ty_model.specs.Paths.{parts_at}
+use Rattle.ty_path.specs.Shared.{path_text}
 use Rattle.ty_syntax.specs.Error.{refusal_of}
 use Rattle.tinymist_session.specs.Command as plain
+use Rattle.tinymist_session.specs.Grammar.{Changes, removing, telling, joined, changes_of}
 use Rattle.tinymist_session.specs.Reply as plain_reply
 use Rattle.tinymist_session.specs.Words as words
 use Rattle.tinymist_session.specs.declared.limits.Options.{Options}
+use Rattle.tinymist_session.specs.ChangeSets.{set_said}
+use Rattle.tinymist_session.specs.declared.content.ContentWord.{ContentWord}
+use Rattle.tinymist_session.specs.declared.content.ContentWord.TheVariants as content
+use Rattle.tinymist_session.specs.declared.command.Change.{Change}
+use Rattle.tinymist_session.specs.declared.command.Change.TheVariants.{Remove, Tell}
+use Rattle.tinymist_session.specs.declared.edit.Edit.{Edit}
+use Rattle.tinymist_session.specs.declared.edit.Edit.TheVariants as edit
 use Rattle.tinymist_session.specs.declared.command.Command.{Command}
-use Rattle.tinymist_session.specs.declared.command.Command.TheVariants.{Map, Snapshot, Read}
+use Rattle.tinymist_session.specs.declared.command.Command.TheVariants as command
 use Rattle.tinymist_session.specs.declared.reply.Reply.{Reply}
 use Rattle.tinymist_session.specs.declared.reply.Reply.TheVariants as reply
 
+abbrev pub content_said : ContentWord → plain.ContentWord
+content_said (content.Bytes bytes) = plain.BytesWord bytes.items
+content_said content.Missing = plain.MissingWord
+content_said (content.Refused error) = plain.RefusedWord (refusal_of error)
+
+abbrev pub change_said : Change → Changes
+change_said (Remove path) = removing (string_bytes path.text)
+change_said (Tell path answer) = telling (string_bytes path.text) answer
+
+abbrev pub edit_said : Edit → batch.Item
+edit_said (edit.MapPath path answer) = batch.MapPath (string_bytes path.text) answer
+edit_said (edit.UnmapPath path) = batch.UnmapPath (string_bytes path.text)
+edit_said edit.Clear = batch.Clear
+edit_said (edit.Notify changes) = batch.ChangeSet (set_said changes.set).removes (set_said changes.set).inserts
+
 abbrev pub command_of : Command → plain.Command
-command_of (Map path bytes) = plain.MapPath 0 (string_bytes path.text) (Content bytes.items)
-command_of Snapshot = plain.Snapshot
-command_of (Read view path) = plain.Read view (plain.PathWord (string_bytes path.text))
+command_of (command.Edit target edit) = plain.Edit target (edit_said edit)
+command_of command.Snapshot = plain.Snapshot
+command_of (command.Read view path) = plain.Read view (plain.PathWord (string_bytes path.text))
+command_of (command.Paths target) = plain.Paths target
 
 abbrev pub reply_of : Reply → plain_reply.Reply
 reply_of (reply.AtRevision revision) = plain_reply.AtRevision revision
 reply_of (reply.ViewNumber number) = plain_reply.ViewNumber number
 reply_of (reply.Contents bytes) = plain_reply.Contents bytes
 reply_of (reply.Fails error) = plain_reply.Fails (refusal_of error)
+reply_of (reply.PathList paths) = plain_reply.PathList (map path_text paths.items)
 reply_of reply.BadView = plain_reply.BadView
 reply_of reply.BadId = plain_reply.BadId
 
@@ -34,3 +60,8 @@ options_said o = record { max_line = o.max_line; max_lines = o.max_lines }
 abbrev pub fields_of : Option (Bor (List ℕ)) → List (List ℕ)
 fields_of None = []
 fields_of (Some text) = parts_at 9 text.now
+
+-- the first change that fields between tabs write, if they write changes, and the fields after it
+abbrev pub ReadsChange : List ℕ → Option (Change × Option (Bor (List ℕ))) → Type 0
+ReadsChange text None = changes_of (parts_at 9 text) ≡ None
+ReadsChange text (Some (change, rest)) = (changes_of (parts_at 9 text) ≡ joined (Some (change_said change)) (changes_of (fields_of rest))) × (length (fields_of rest) < length (parts_at 9 text))

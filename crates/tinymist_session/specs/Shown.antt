@@ -1,5 +1,5 @@
 -- What the code keeps of a state: for each space its number and its last version, and the next number of a space.
-use Rattle.std.specs.Prelude.{◌≡◌, ℕ, ◌-◌, ◌==◌, if◌then◌else◌, List, map, slice_get, Option, Some, None}
+use Rattle.std.specs.Prelude.{◌≡◌, ℕ, ◌-◌, ◌==◌, if◌then◌else◌, List, [], ◌∷◌, map, max, slice_get, Option, Some, None}
 use Rattle.std.specs.FinMap as finmap
 use Rattle.ty_model.specs.Disk.{Told}
 use Rattle.ty_model.specs.Values.{Id}
@@ -24,16 +24,27 @@ shown k = (k.held.space, version_of known k)
 abbrev pub space_shown : Space → ℕ × Version
 space_shown s = (s.number, s.now)
 
+-- the greatest revision of all spaces
+abbrev pub highest : List (ℕ × Version) → ℕ
+highest [] = 0
+highest (s ∷ ss) = max s.1.revision (highest ss)
+
+abbrev pub top_revision : Kept MockRootResolver → List (Kept MockRootResolver) → ℕ
+top_revision live views = highest (map shown (live ∷ views))
+
 -- the code shows these parts of the state
 pub record IsShown (live : Kept MockRootResolver) (views : List (Kept MockRootResolver)) (tags : Counters) (s : State) : Type 0 where
   pub live_is : shown live ≡ space_shown s.live
   pub views_are : map shown views ≡ map space_shown s.views
   pub next : tags.next_space ≡ s.next_space
 
--- ---- a read of a view
-
 abbrev pub kept_at : List (Kept MockRootResolver) → ℕ → Option (Kept MockRootResolver)
 kept_at views k = if k == 0 then None else slice_get views (k - 1)
+
+abbrev pub target_kept : Kept MockRootResolver → List (Kept MockRootResolver) → ℕ → Option (Kept MockRootResolver)
+target_kept live views target = if target == 0 then Some live else kept_at views target
+
+-- ---- a read of a view
 
 abbrev pub read_reply : Option (Kept MockRootResolver) → Told → Option Id → Reply
 read_reply None disk id = BadView

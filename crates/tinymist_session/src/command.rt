@@ -1,23 +1,40 @@
 //! The command that a line reads as.
 ghost use Rattle.std.specs.Prelude.{◌≡◌, ◌∷◌, [], None, IfOk, IfSome, IfNone};
-ghost use Rattle.std.specs.Option.{option_map};
+ghost use Rattle.std.specs.Option.{option_map, option_copied};
+ghost use Rattle.ty_model.specs.Paths.{parts_at};
 ghost use Rattle.tinymist_session.specs.Grammar as grammar;
-ghost use Rattle.tinymist_session.specs.Grammar.{two_of, three_of};
-ghost use Rattle.tinymist_session.specs.Said.{command_of, fields_of};
+ghost use Rattle.tinymist_session.specs.Grammar.{one_of, two_of, three_of, told_of, path_of, content_of};
+ghost use Rattle.tinymist_session.specs.ChangeSets.{set_said};
+ghost use Rattle.tinymist_session.specs.Said.{command_of, change_said, fields_of, ReadsChange};
 
-use crate::words::{CleanPath, content, cut, number, path, text_of};
+use crate::changes::CleanChanges;
+use crate::content::content;
+use crate::edit::Edit;
+use crate::words::{CleanPath, after_sign, cut, number, path, text_of};
 use std::alloc::Global;
+use ty_cells::FileSnapshot;
 use ty_path::OutOfMemory;
 
-/// What a line asks for.
+/// What a line asks for. A target is 0 for the live state, and else the number of a view.
 #[derive(Drop)]
 pub enum Command {
-    /// Maps a path of the live state to these bytes.
-    Map(CleanPath, Vec<u8>),
+    /// Edits a target.
+    Edit(u64, Edit),
     /// Takes a snapshot of the live state.
     Snapshot,
     /// Reads a path in a view.
     Read(u64, CleanPath),
+    /// Lists the paths of a target's overlay.
+    Paths(u64),
+}
+
+/// One change of a change set.
+#[derive(Drop)]
+enum Change {
+    /// The path is no longer told.
+    Remove(CleanPath),
+    /// The path is told to be this.
+    Tell(CleanPath, FileSnapshot),
 }
 
 /// The command, where the line reads as one.
@@ -43,6 +60,14 @@ fn sentence(alloc: Global, word: &str, fields: Option<&str>) -> Result<Option<Co
         Ok(snapshot_sentence(fields))
     } else if word == "read" {
         read_sentence(alloc, fields)
+    } else if word == "unmap" {
+        unmap_sentence(alloc, fields)
+    } else if word == "clear" {
+        Ok(clear_sentence(fields))
+    } else if word == "notify" {
+        notify_sentence(alloc, fields)
+    } else if word == "paths" {
+        Ok(paths_sentence(fields))
     } else {
         Ok(None)
     }
@@ -75,18 +100,132 @@ fn read_sentence(alloc: Global, fields: Option<&str>) -> Result<Option<Command>,
 fn map_sentence(alloc: Global, fields: Option<&str>) -> Result<Option<Command>, OutOfMemory>
     ensures { IfOk result (λ said. option_map command_of said ≡ grammar.map_sentence (fields_of fields.entry)) }
 {
-    let Some((target, word, bytes)) = three_fields(fields) else {
+    let Some((target, word, says)) = three_fields(fields) else {
         return Ok(None);
     };
-    if target != "0" {
+    let Some(target) = number(target) else {
         return Ok(None);
-    }
+    };
     let Some(path) = path(alloc, word)? else {
         return Ok(None);
     };
-    match content(alloc, bytes)? {
-        Some(bytes) => Ok(Some(Command::Map(path, bytes))),
+    let Some(content) = content(alloc, says)? else {
+        return Ok(None);
+    };
+    let answer = content.answer_at(alloc, path.as_str())?;
+    Ok(Some(Command::Edit(target, Edit::MapPath(path, answer))))
+}
+
+fn unmap_sentence(alloc: Global, fields: Option<&str>) -> Result<Option<Command>, OutOfMemory>
+    ensures { IfOk result (λ said. option_map command_of said ≡ grammar.unmap_sentence (fields_of fields.entry)) }
+{
+    let Some((target, word)) = two_fields(fields) else {
+        return Ok(None);
+    };
+    let Some(target) = number(target) else {
+        return Ok(None);
+    };
+    match path(alloc, word)? {
+        Some(path) => Ok(Some(Command::Edit(target, Edit::UnmapPath(path)))),
         None => Ok(None),
+    }
+}
+
+fn clear_sentence(fields: Option<&str>) -> Option<Command>
+    ensures { option_map command_of result ≡ grammar.clear_sentence (fields_of fields.entry) }
+{
+    let target = number(one_field(fields)?)?;
+    Some(Command::Edit(target, Edit::Clear))
+}
+
+fn paths_sentence(fields: Option<&str>) -> Option<Command>
+    ensures { option_map command_of result ≡ grammar.paths_sentence (fields_of fields.entry) }
+{
+    let target = number(one_field(fields)?)?;
+    Some(Command::Paths(target))
+}
+
+fn notify_sentence(alloc: Global, fields: Option<&str>) -> Result<Option<Command>, OutOfMemory>
+    ensures { IfOk result (λ said. option_map command_of said ≡ grammar.notify_sentence (fields_of fields.entry)) }
+{
+    match changes(alloc, fields)? {
+        Some(changes) => Ok(Some(Command::Edit(0, Edit::Notify(changes)))),
+        None => Ok(None),
+    }
+}
+
+/// The changes that all fields write.
+fn changes(alloc: Global, fields: Option<&str>) -> Result<Option<CleanChanges>, OutOfMemory>
+    ensures { IfOk result (λ all. option_map (λ c. set_said c.set) all ≡ grammar.changes_of (fields_of fields.entry)) }
+{
+    let mut all = CleanChanges::new(alloc);
+    let mut left = fields;
+    while let Some(text) = left {
+        let Some((change, rest)) = first_change(alloc, text)? else {
+            return Ok(None);
+        };
+        all = match change {
+            Change::Remove(path) => all.with_removal(alloc, path)?,
+            Change::Tell(path, answer) => all.with_file(alloc, path, answer)?,
+        };
+        left = rest;
+    }
+    Ok(Some(all))
+}
+
+/// The change that the first fields write, and the fields after it.
+fn first_change(alloc: Global, fields: &str) -> Result<Option<(Change, Option<&str>)>, OutOfMemory>
+    ensures { IfOk result (ReadsChange fields.now) }
+{
+    let (word, rest) = first_field(fields);
+    if let Some(removed) = after_sign('-', word) {
+        return match path(alloc, removed)? {
+            Some(path) => Ok(Some((Change::Remove(path), rest))),
+            None => Ok(None),
+        };
+    }
+    let (Some(told), Some(rest)) = (after_sign('+', word), rest) else {
+        return Ok(None);
+    };
+    let (says, rest) = first_field(rest);
+    match told_file(alloc, told, says)? {
+        Some(file) => Ok(Some((file, rest))),
+        None => Ok(None),
+    }
+}
+
+/// A path that is told, and its content.
+fn told_file(alloc: Global, word: &str, says: &str) -> Result<Option<Change>, OutOfMemory>
+    ensures { IfOk result (λ file. option_map change_said file ≡ told_of (path_of word.now) (content_of says.now)) }
+{
+    let Some(path) = path(alloc, word)? else {
+        return Ok(None);
+    };
+    let Some(content) = content(alloc, says)? else {
+        return Ok(None);
+    };
+    let answer = content.answer_at(alloc, path.as_str())?;
+    Ok(Some(Change::Tell(path, answer)))
+}
+
+/// The first field, and the fields after it.
+fn first_field(fields: &str) -> (&str, Option<&str>)
+    ensures { parts_at 9 fields.now ≡ result.0.now ∷ fields_of result.1 }
+{
+    match cut(fields) {
+        Some((first, rest)) => (first, Some(rest)),
+        None => (fields, None),
+    }
+}
+
+/// The field, where there is one.
+fn one_field(fields: Option<&str>) -> Option<&str>
+    ensures { option_copied result ≡ one_of (fields_of fields.entry) }
+{
+    let field = fields?;
+    match cut(field) {
+        None => Some(field),
+        Some(_) => None,
     }
 }
 

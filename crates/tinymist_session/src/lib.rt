@@ -1,7 +1,10 @@
 //! A session over a stream of command lines: its grammar, its machine, its loop, and the program's top call.
 #![tactic(auto)]
 
+mod changes;
 mod command;
+mod content;
+mod edit;
 mod limits;
 mod machine;
 mod memory;
@@ -16,7 +19,9 @@ mod system;
 mod tests;
 mod words;
 
+pub use changes::CleanChanges;
 pub use command::{Command, read_command};
+pub use edit::Edit;
 pub use limits::{DEFAULT_LIMITS, Limits};
 pub use memory::{MemorySink, MemorySource};
 pub use program::{BAD_WORDS, OUT_OF_MEMORY, run_program};

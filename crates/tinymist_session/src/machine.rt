@@ -2,30 +2,31 @@
 ghost use Rattle.std.specs.Prelude.{◌≡◌, ◌+◌, ◌-◌, ◌^◌, ◌<◌, ◌≤◌, ◌++◌, ◌∷◌, [], length, map, Option, IfOk, OnOk, OnErr, Some, Err};
 ghost use Rattle.std.specs.Option.{option_map, option_copied};
 ghost use Rattle.std.specs.String.{string_bytes};
-ghost use Rattle.ty_model.specs.Values.{Content};
-ghost use Rattle.ty_model.specs.Batch.{MapPath};
-ghost use Rattle.ty_model.specs.Paths.{clean};
+ghost use Rattle.std.specs.FinMap as finmap;
 ghost use Rattle.ty_model.specs.Places.{id_by_parent};
 ghost use Rattle.ty_model.specs.LookUp.{look, decision};
 ghost use Rattle.ty_model.specs.Disk.{Told, IsFixed};
+ghost use Rattle.ty_path.specs.Shared.{path_text};
+ghost use Rattle.tinymist_vfs.specs.Items.{items_of};
 ghost use Rattle.tinymist_vfs.specs.Commits.{committed};
 ghost use Rattle.tinymist_vfs.specs.Reading.{ReadsAsTold};
 ghost use Rattle.tinymist_session.specs.Machine as plain;
 ghost use Rattle.tinymist_session.specs.Reply.{reply_to};
-ghost use Rattle.tinymist_session.specs.Said.{reply_of, command_of};
-ghost use Rattle.tinymist_session.specs.Shown.{IsShown, shown, kept_at, read_reply};
+ghost use Rattle.tinymist_session.specs.Said.{reply_of, command_of, edit_said};
+ghost use Rattle.tinymist_session.specs.Shown.{IsShown, shown, kept_at, target_kept, top_revision, read_reply};
 
 use crate::command::Command;
+use crate::edit::Edit;
 use crate::reply::Reply;
 use crate::words::CleanPath;
 use std::alloc::Global;
 use std::marker::Brand;
 use std::sync::ledger::{Blank, Ledger};
-use tinymist_vfs::{MockRootResolver, ReviseFault, Vfs, WorkspaceResolver};
-use ty_cells::{FileSnapshot, OwnCells, PathAccessModel};
+use tinymist_vfs::{MockRootResolver, ReviseFault, RevisingVfs, Vfs, WorkspaceResolver};
+use ty_cells::{OwnCells, PathAccessModel};
 use ty_path::OutOfMemory;
 use ty_persist::Steps;
-use ty_syntax::{Bytes, FileFault, FileId, TagFault, Tags};
+use ty_syntax::{FileFault, FileId, TagFault, Tags};
 
 /// The live state, and the views with view 1 first.
 #[derive(Drop)]
@@ -40,7 +41,7 @@ impl Machine {
     /// The state at the start: nothing in it, and no view.
     pub(crate) fn new(alloc: Global) -> Result<Machine, OutOfMemory>
         ensures shown { IfOk result (λ m. IsShown m.live m.views.items m.tags plain.opening) }
-        ensures revision { IfOk result (λ m. m.live.held.revision ≡ 2) }
+        ensures revision { IfOk result (λ m. top_revision m.live m.views.items ≡ 2) }
         ensures space { IfOk result (λ m. m.tags.next_space ≡ 2) }
     {
         let mut tags = Tags::new();
@@ -62,47 +63,70 @@ impl Machine {
         disk: &mut M,
         command: Command,
     ) -> Result<Reply, OutOfMemory>
-        requires revision { self.old.live.held.revision < 2 ^ 64 - 1 }
+        requires revision { top_revision self.old.live self.old.views.items < 2 ^ 64 - 1 }
         requires space { self.old.tags.next_space < 2 ^ 64 - 1 }
         ensures reply { (told : Told) (s : plain.State) → M.told disk.old ≡ Some told → IsShown self.old.live self.old.views.items self.old.tags s → IfOk result (λ r. reply_of r ≡ (plain.step s told (command_of command)).reply) }
         ensures state { (told : Told) (s : plain.State) → M.told disk.old ≡ Some told → IsShown self.old.live self.old.views.items self.old.tags s → OnOk result (IsShown self.new.live self.new.views.items self.new.tags (plain.step s told (command_of command)).state) }
         ensures left { (told : Told) → M.told disk.old ≡ Some told → IsFixed told → M.told disk.new ≡ Some told }
-        ensures revision { self.new.live.held.revision ≤ self.old.live.held.revision + 1 }
+        ensures revision { top_revision self.new.live self.new.views.items ≤ top_revision self.old.live self.old.views.items + 1 }
         ensures space { self.new.tags.next_space ≤ self.old.tags.next_space + 1 }
     {
         match command {
-            Command::Map(path, bytes) => {
-                let revision = self.map_file(&path, bytes)?;
-                Ok(Reply::AtRevision(revision))
-            }
+            Command::Edit(target, edit) => self.edit_target(target, edit),
             Command::Snapshot => {
                 let number = self.take_snapshot()?;
                 Ok(Reply::ViewNumber(number))
             }
             Command::Read(view, path) => self.read_view(disk, view, &path),
+            Command::Paths(target) => self.list_paths(target),
         }
     }
 
-    /// Maps a file of the live state, and answers the revision.
-    fn map_file(&mut self, path: &CleanPath, bytes: Vec<u8>) -> Result<u64, OutOfMemory>
-        requires { self.old.live.held.revision < 2 ^ 64 - 1 }
-        ensures rest { (self.new.views ≡ self.old.views) × (self.new.tags ≡ self.old.tags) }
-        ensures ok { IfOk result (λ n. (self.new.live ≡ committed self.old.live (MapPath (string_bytes path.now.text) (Content bytes.items) ∷ [])) × (n ≡ self.new.live.held.revision)) }
-        ensures err { OnErr result (self.new.live ≡ self.old.live) }
-        ensures revision { self.new.live.held.revision ≤ self.old.live.held.revision + 1 }
+    /// Edits a target, and answers its revision.
+    fn edit_target(&mut self, target: u64, edit: Edit) -> Result<Reply, OutOfMemory>
+        requires { top_revision self.old.live self.old.views.items < 2 ^ 64 - 1 }
+        ensures reply { (s : plain.State) → IsShown self.old.live self.old.views.items self.old.tags s → IfOk result (λ r. reply_of r ≡ (plain.edit_step s target (edit_said edit)).reply) }
+        ensures state { (s : plain.State) → IsShown self.old.live self.old.views.items self.old.tags s → OnOk result (IsShown self.new.live self.new.views.items self.new.tags (plain.edit_step s target (edit_said edit)).state) }
+        ensures revision { top_revision self.new.live self.new.views.items ≤ top_revision self.old.live self.old.views.items + 1 }
+        ensures tags { self.new.tags ≡ self.old.tags }
     {
-        let snap = FileSnapshot::from_bytes(Bytes::new(self.alloc, bytes)?);
-        match map_one(&mut self.live, path.text.as_str(), snap) {
-            Ok(revision) => Ok(revision),
-            Err(ReviseFault::Full) => unreachable!(),
-            Err(ReviseFault::OutOfMemory) => Err(OutOfMemory),
+        if target == 0 {
+            let revision = edit_space(&mut self.live, edit)?;
+            return Ok(Reply::AtRevision(revision));
         }
+        let k = (target - 1) as usize;
+        if k >= self.views.len() {
+            return Ok(Reply::BadView);
+        }
+        let revision = edit_space(&mut self.views[k], edit)?;
+        Ok(Reply::AtRevision(revision))
+    }
+
+    /// The paths of a target's overlay.
+    fn list_paths(&self, target: u64) -> Result<Reply, OutOfMemory>
+        ensures { (s : plain.State) → IsShown self.now.live self.now.views.items self.now.tags s → IfOk result (λ r. reply_of r ≡ plain.paths_reply (plain.space_at s target)) }
+    {
+        match self.space(target) {
+            Some(vfs) => Ok(Reply::PathList(vfs.shadow_paths()?)),
+            None => Ok(Reply::BadView),
+        }
+    }
+
+    /// The space of a target.
+    fn space(&self, target: u64) -> Option<&Vfs<MockRootResolver>>
+        ensures { option_copied result ≡ target_kept self.now.live self.now.views.items target }
+    {
+        if target == 0 {
+            return Some(&self.live);
+        }
+        view_of(&self.views, target)
     }
 
     /// Takes a snapshot of the live state, and answers its number.
     fn take_snapshot(&mut self) -> Result<usize, OutOfMemory>
         requires { self.old.tags.next_space < 2 ^ 64 - 1 }
         ensures live { self.new.live ≡ self.old.live }
+        ensures revision { top_revision self.new.live self.new.views.items ≤ top_revision self.old.live self.old.views.items }
         ensures space { self.new.tags.next_space ≤ self.old.tags.next_space + 1 }
         ensures ok { IfOk result (λ n. (map shown self.new.views.items ≡ map shown self.old.views.items ++ (self.old.tags.next_space, (shown self.old.live).1) ∷ [])
             × (self.new.tags.next_space ≡ self.old.tags.next_space + 1) × (n ≡ length self.new.views.items)) }
@@ -138,19 +162,44 @@ impl Machine {
     }
 }
 
-/// Maps one file in a batch of its own.
-fn map_one(
-    vfs: &mut Vfs<MockRootResolver>,
-    path: &str,
-    snap: FileSnapshot,
-) -> Result<u64, ReviseFault>
-    ensures ok { IfOk result (λ n. (vfs.new ≡ committed vfs.old (MapPath (clean path.now) snap ∷ [])) × (n ≡ vfs.new.held.revision)) }
+/// Edits a space below the last revision.
+fn edit_space(vfs: &mut Vfs<MockRootResolver>, edit: Edit) -> Result<u64, OutOfMemory>
+    requires { vfs.old.held.revision < 2 ^ 64 - 1 }
+    ensures ok { IfOk result (λ n. (vfs.new ≡ committed vfs.old (edit_said edit ∷ [])) × (n ≡ vfs.new.held.revision)) }
+    ensures err { OnErr result (vfs.new ≡ vfs.old) }
+{
+    match commit(vfs, edit) {
+        Ok(revision) => Ok(revision),
+        Err(ReviseFault::Full) => unreachable!(),
+        Err(ReviseFault::OutOfMemory) => Err(OutOfMemory),
+    }
+}
+
+/// Commits an edit in a batch of its own.
+fn commit(vfs: &mut Vfs<MockRootResolver>, edit: Edit) -> Result<u64, ReviseFault>
+    ensures ok { IfOk result (λ n. (vfs.new ≡ committed vfs.old (edit_said edit ∷ [])) × (n ≡ vfs.new.held.revision)) }
     ensures err { OnErr result (vfs.new ≡ vfs.old) }
     ensures full { result ≡ Err ReviseFault.Full → vfs.old.held.revision ≡ 2 ^ 64 - 1 }
 {
     let mut batch = vfs.revise()?;
-    batch.map_shadow(path, snap)?;
+    gather(&mut batch, edit)?;
     batch.finish()
+}
+
+/// Gathers an edit.
+fn gather(batch: &mut RevisingVfs<'_, MockRootResolver>, edit: Edit) -> Result<(), OutOfMemory>
+    ensures same { batch.new.holder.ghost_name ≡ batch.old.holder.ghost_name }
+    ensures now { batch.new.holder.now ≡ batch.old.holder.now }
+    ensures view { batch.new.changes_view ≡ batch.old.changes_view }
+    ensures ok { OnOk result (items_of batch.new.batch.items ≡ items_of batch.old.batch.items ++ edit_said edit ∷ []) }
+    ensures err { OnErr result (batch.new.batch.items ≡ batch.old.batch.items) }
+{
+    match edit {
+        Edit::MapPath(path, answer) => batch.map_shadow(path.as_str(), answer),
+        Edit::UnmapPath(path) => batch.unmap_shadow(path.as_str()),
+        Edit::Clear => batch.reset_shadow(),
+        Edit::Notify(changes) => batch.notify_fs_changes(changes.set),
+    }
 }
 
 /// A copy under a fresh space number.

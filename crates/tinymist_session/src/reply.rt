@@ -1,10 +1,12 @@
 //! Replies and their lines.
-ghost use Rattle.std.specs.Prelude.{◌≡◌, IfOk};
-ghost use Rattle.tinymist_session.specs.Reply.{reply_line, fail_word, Contents};
+ghost use Rattle.std.specs.Prelude.{◌≡◌, IfOk, map};
+ghost use Rattle.ty_path.specs.Shared.{path_text};
+ghost use Rattle.tinymist_session.specs.Reply.{reply_line, fail_word, Contents, PathList};
 ghost use Rattle.ty_syntax.specs.Error.{refusal_of};
 ghost use Rattle.tinymist_session.specs.Said.{reply_of};
 
 use std::alloc::{AllocError, Global};
+use ty_path::ImmutPath;
 use ty_syntax::{Bytes, FileError};
 
 /// What a step replies.
@@ -18,6 +20,8 @@ pub enum Reply {
     Contents(Bytes),
     /// What is wrong with a file.
     Fails(FileError),
+    /// The paths of an overlay, ascending.
+    PathList(Vec<ImmutPath>),
     /// There is no view of that number.
     BadView,
     /// The word names no id.
@@ -51,10 +55,25 @@ pub fn line_of(alloc: Global, reply: Reply) -> Result<Vec<u8>, AllocError>
             let word = fail_text(&error);
             format!(in alloc; "fail\t{word}\n")
         }
+        Reply::PathList(paths) => return paths_line(alloc, &paths),
         Reply::BadView => String::from_str(alloc, "err\tview\n"),
         Reply::BadId => String::from_str(alloc, "err\tid\n"),
     };
     Ok(text?.into_bytes())
+}
+
+/// The line of a list of paths.
+fn paths_line(alloc: Global, paths: &[ImmutPath]) -> Result<Vec<u8>, AllocError>
+    ensures { IfOk result (λ line. line.items ≡ reply_line (PathList (map path_text paths.now))) }
+{
+    let mut line = Vec::new(alloc);
+    line.extend_from_slice(b"paths")?;
+    for path in paths {
+        line.push(b'\t')?;
+        line.extend_from_slice(path.as_bytes())?;
+    }
+    line.push(b'\n')?;
+    Ok(line)
 }
 
 /// The line of contents. Their digits are written once, where they stand in it.

@@ -10,7 +10,7 @@ ghost use Rattle.tinymist_session.specs.Grammar.{command_of};
 ghost use Rattle.tinymist_session.specs.Machine.{State, step, opening};
 ghost use Rattle.tinymist_session.specs.Session.{end_of, replies_to};
 ghost use Rattle.tinymist_session.specs.Session as plain;
-ghost use Rattle.tinymist_session.specs.Shown.{IsShown};
+ghost use Rattle.tinymist_session.specs.Shown.{IsShown, top_revision};
 ghost use Rattle.tinymist_session.specs.Run.{EndFits, Written, UnlessCutOff, Received, replies_received, TakenWithin, most_bytes};
 ghost use Rattle.tinymist_session.specs.Turns.{TurnReads, TurnSays, PassEnds, PassSays, Broken, ends, replies, limits_of};
 
@@ -71,7 +71,7 @@ struct Session {
 impl Session {
     fn new(alloc: Global) -> Result<Session, OutOfMemory>
         ensures shown { IfOk result (λ s. IsShown s.machine.live s.machine.views.items s.machine.tags opening) }
-        ensures revision { IfOk result (λ s. s.machine.live.held.revision ≡ 2) }
+        ensures revision { IfOk result (λ s. top_revision s.machine.live s.machine.views.items ≡ 2) }
         ensures space { IfOk result (λ s. s.machine.tags.next_space ≡ 2) }
         ensures held { IfOk result (λ s. held_of s.reader ≡ []) }
     {
@@ -89,7 +89,7 @@ impl Session {
         disk: &mut M,
         number: u64,
     ) -> Result<(), SessionFault>
-        requires revision { self.old.machine.live.held.revision < 2 ^ 63 }
+        requires revision { top_revision self.old.machine.live self.old.machine.views.items < 2 ^ 63 }
         requires space { self.old.machine.tags.next_space < 2 ^ 63 }
         ensures reads { TurnReads (command_of (line_of self.old.reader)) number result }
         ensures quiet { command_of (line_of self.old.reader) ≡ None → W.taken sink.new ≡ W.taken sink.old }
@@ -97,7 +97,7 @@ impl Session {
             → command_of (line_of self.old.reader) ≡ Some command → TurnSays (step s told command) (W.taken sink.old) (W.taken sink.new) self.new.machine.live self.new.machine.views.items self.new.machine.tags result }
         ensures left { (told : Told) → M.told disk.old ≡ Some told → IsFixed told → M.told disk.new ≡ Some told }
         ensures reader { self.new.reader ≡ self.old.reader }
-        ensures revision { self.new.machine.live.held.revision ≤ self.old.machine.live.held.revision + 1 }
+        ensures revision { top_revision self.new.machine.live self.new.machine.views.items ≤ top_revision self.old.machine.live self.old.machine.views.items + 1 }
         ensures space { self.new.machine.tags.next_space ≤ self.old.machine.tags.next_space + 1 }
         ensures faults { W.faults sink.old ≤ W.faults sink.new }
         ensures dry { W.dry sink.old ≤ W.dry sink.new }
@@ -125,7 +125,7 @@ impl Session {
         n: u32,
     ) -> Result<bool, SessionFault>
         requires room { n < limits.max_lines }
-        requires revision { self.old.machine.live.held.revision < 2 ^ 63 }
+        requires revision { top_revision self.old.machine.live self.old.machine.views.items < 2 ^ 63 }
         requires space { self.old.machine.tags.next_space < 2 ^ 63 }
         ensures ends { (rest : List ℕ) → ahead self.old.reader (S.left source.old) ≡ Some rest → PassEnds (limits_of limits) n rest (ahead self.new.reader (S.left source.new)) result }
         ensures says { (rest : List ℕ) (told : Told) (s : State) → ahead self.old.reader (S.left source.old) ≡ Some rest → M.told disk.old ≡ Some told → IsShown self.old.machine.live self.old.machine.views.items self.old.machine.tags s
@@ -135,7 +135,7 @@ impl Session {
         ensures bounded { (rest : List ℕ) → ahead self.old.reader (S.left source.old) ≡ Some rest → TakenWithin (limits.max_line + 65536) rest (S.left source.new) }
         ensures left { (told : Told) → M.told disk.old ≡ Some told → IsFixed told → M.told disk.new ≡ Some told }
         ensures at_end { result ≡ Ok false → IsAtEnd (ahead self.new.reader (S.left source.new)) }
-        ensures revision { self.new.machine.live.held.revision ≤ self.old.machine.live.held.revision + 1 }
+        ensures revision { top_revision self.new.machine.live self.new.machine.views.items ≤ top_revision self.old.machine.live self.old.machine.views.items + 1 }
         ensures space { self.new.machine.tags.next_space ≤ self.old.machine.tags.next_space + 1 }
         ensures read_cause { HasCause (IsErrOf result SessionFault.ReadFault) (S.faults source.old) (S.faults source.new) }
         ensures faults { W.faults sink.old ≤ W.faults sink.new }
@@ -194,7 +194,7 @@ impl Session {
         limits: Limits,
     ) -> Result<(), SessionFault>
         requires shown { IsShown self.old.machine.live self.old.machine.views.items self.old.machine.tags opening }
-        requires revision { self.old.machine.live.held.revision ≡ 2 }
+        requires revision { top_revision self.old.machine.live self.old.machine.views.items ≡ 2 }
         requires space { self.old.machine.tags.next_space ≡ 2 }
         requires held { held_of self.old.reader ≡ [] }
         ensures ends { (input : List ℕ) → S.left source.old ≡ Some input → EndFits (end_of (limits_of limits) input) result }

@@ -5,7 +5,8 @@ ghost use Rattle.tinymist_session.specs.Memory.{are_positive};
 use crate::{Limits, MemorySink, MemorySource, SessionFault, run_program, run_session};
 use std::alloc::Global;
 use std::test::Fail;
-use ty_cells::MapAccess;
+use ty_cells::{FileSnapshot, MapAccess};
+use ty_syntax::Bytes;
 
 const MAP_AND_READ: &str = "map\t0\t/w/a.typ\t=6869\nsnapshot\nread\t1\t/w/a.typ";
 
@@ -76,6 +77,36 @@ fn worked_sessions(rt: HostRuntime) -> Result<(), Fail> {
             0,
         ),
         ("snapshot\nsnapshots\nsnapshot\n", "view\t1\n", 3),
+        (
+            "notify\t+/w/a.typ\t=61\t+/w/b.typ\t=62\nnotify\t+/w/a.typ\t=63\t+/w/b.typ\t=62\nsnapshot\nread\t1\t/w/a.typ\nnotify\nnotify\t-/w/b.typ\t+/w/b.typ\t=62\n",
+            "ok\t3\nok\t4\nview\t1\nbytes\t63\nok\t4\nok\t5\n",
+            0,
+        ),
+        (
+            "notify\t+/a\t=61\t+/a\t=62\t-/a\nsnapshot\nread\t1\t/a\n",
+            "ok\t3\nview\t1\nbytes\t62\n",
+            0,
+        ),
+        (
+            "map\t0\t/b\t!other\nmap\t0\t/a\t!not-source\nsnapshot\nread\t1\t/a\nread\t1\t/b\nmap\t1\t/a\t!is-directory\nmap\t1\t/b\t!access-denied\nread\t1\t/a\nread\t1\t/b\nmap\t1\t/a\t!invalid-utf8\nread\t1\t/a\npaths\t0\npaths\t1\n",
+            "ok\t3\nok\t4\nview\t1\nfail\tnot-source\nfail\tother\nok\t5\nok\t6\nfail\tis-directory\nfail\taccess-denied\nok\t7\nfail\tinvalid-utf8\npaths\t/a\t/b\npaths\t/a\t/b\n",
+            0,
+        ),
+        (
+            "map\t0\t/a\t!not-found\nmap\t0\t/a\t!not-found\nunmap\t0\t/a\nunmap\t0\t/a\npaths\t0\nclear\t0\n",
+            "ok\t3\nok\t3\nok\t4\nok\t5\npaths\nok\t5\n",
+            0,
+        ),
+        (
+            "map\t0\t/a\t=61\nsnapshot\nsnapshot\nclear\t1\nmap\t2\t/b\t=62\npaths\t0\npaths\t1\npaths\t2\nread\t1\t/a\nread\t2\t/a\nunmap\t2\t/a\npaths\t2\n",
+            "ok\t3\nview\t1\nview\t2\nok\t4\nok\t4\npaths\t/a\npaths\npaths\t/a\t/b\nfail\tnot-found\nbytes\t61\nok\t5\npaths\t/b\n",
+            0,
+        ),
+        (
+            "map\t1\t/a\t=61\nunmap\t1\t/a\nclear\t1\npaths\t1\nsnapshot\nclear\t2\n",
+            "err\tview\nerr\tview\nerr\tview\nerr\tview\nview\t1\nerr\tview\n",
+            0,
+        ),
     ];
     for (input, replies, status) in rows {
         let (ended, sink) = answers(rt.alloc(), input.as_bytes())?;
@@ -89,7 +120,7 @@ fn worked_sessions(rt: HostRuntime) -> Result<(), Fail> {
 // One line each, with the status of a session of that line alone.
 #[test]
 fn edges_of_the_grammar(rt: HostRuntime) -> Result<(), Fail> {
-    let rows: [(&[u8], u8); 32] = [
+    let rows: [(&[u8], u8); 60] = [
         (b"snapshot", 0),
         (b"\n", 3),
         (b"snapshot\r\n", 3),
@@ -107,13 +138,18 @@ fn edges_of_the_grammar(rt: HostRuntime) -> Result<(), Fail> {
         (b"map\t0\t/w/.\t=61", 3),
         (b"map\t0\t/..a\t=61", 0),
         (b"map\t00\t/a\t=61", 3),
-        (b"map\t1\t/a\t=61", 3),
+        (b"map\t1\t/a\t=61", 0),
+        (b"map\t-1\t/a\t=61", 3),
         (b"map\t0\t/a\t=6", 3),
         (b"map\t0\t/a\t=6g", 3),
         (b"map\t0\t/a\t=AbcD", 0),
         (b"map\t0\t/a\t=", 0),
         (b"map\t0\t/a\t61", 3),
-        (b"map\t0\t/a\t!not-found", 3),
+        (b"map\t0\t/a\t!not-found", 0),
+        (b"map\t0\t/a\t!package", 3),
+        (b"map\t0\t/a\t!", 3),
+        (b"map\t0\t/a\tother", 3),
+        (b"map\t0\t/a\t!other ", 3),
         (b"map\t0\t/a", 3),
         (b"map\t0\t/a\t=61\t", 3),
         (b"read\t1\t/a\t", 3),
@@ -122,10 +158,71 @@ fn edges_of_the_grammar(rt: HostRuntime) -> Result<(), Fail> {
         (b"read\t01\t/a", 3),
         (b"read\t18446744073709551616\t/a", 3),
         (b"read\t+1\t/a", 3),
+        (b"unmap\t0\t/a", 0),
+        (b"unmap\t0\ta", 3),
+        (b"unmap\t0", 3),
+        (b"unmap\t0\t/a\t=61", 3),
+        (b"clear\t0", 0),
+        (b"clear", 3),
+        (b"clear\t", 3),
+        (b"clear\t0\t0", 3),
+        (b"paths\t18446744073709551615", 0),
+        (b"paths\t18446744073709551616", 3),
+        (b"paths", 3),
+        (b"notify", 0),
+        (b"notify\t", 3),
+        (b"notify\t/a", 3),
+        (b"notify\t-", 3),
+        (b"notify\t-a", 3),
+        (b"notify\t-/a", 0),
+        (b"notify\t-/a\t=61", 3),
+        (b"notify\t-/a\t-/a", 0),
+        (b"notify\t+/a", 3),
+        (b"notify\t+/a\t-/a", 3),
+        (b"notify\t+/a\t=61\t-/a", 0),
+        (b"notify\t+/a/\t=61", 3),
     ];
     for (input, status) in rows {
         let (ended, _sink) = answers(rt.alloc(), input)?;
         assert_eq!(rt; ended, status, "{input:?}");
+    }
+    Ok(())
+}
+
+/// A disk of one file, which is `a`.
+fn file_disk(alloc: Global) -> Result<MapAccess, Fail> {
+    let said = FileSnapshot::from_bytes(Bytes::new(alloc, b"a".to_vec(alloc)?)?);
+    let mut files = Vec::new(alloc);
+    files.push((String::from_str(alloc, "/w/a.typ")?, said))?;
+    Ok(MapAccess::new(files))
+}
+
+/// The status and the replies over that disk.
+fn answers_over_a_file(alloc: Global, input: &str) -> Result<(u8, MemorySink), Fail> {
+    let mut disk = file_disk(alloc)?;
+    let mut source = source_of(alloc, input.as_bytes(), Vec::new(alloc))?;
+    let mut sink = empty_sink(alloc);
+    let mut faults = empty_sink(alloc);
+    let status = run_program(alloc, &[], &mut source, &mut sink, &mut faults, &mut disk);
+    Ok((status, sink))
+}
+
+#[test]
+fn overlays_before_the_disk(rt: HostRuntime) -> Result<(), Fail> {
+    let rows = [
+        (
+            "notify\t+/w/a.typ\t!not-found\nsnapshot\nread\t1\t/w/a.typ\nnotify\t-/w/a.typ\nsnapshot\nread\t2\t/w/a.typ\n",
+            "ok\t3\nview\t1\nfail\tnot-found\nok\t4\nview\t2\nbytes\t61\n",
+        ),
+        (
+            "notify\t+/w/a.typ\t=62\nmap\t0\t/w/a.typ\t=63\nsnapshot\nread\t1\t/w/a.typ\npaths\t0\nclear\t0\nclear\t0\nsnapshot\nread\t2\t/w/a.typ\nread\t1\t/w/a.typ\n",
+            "ok\t3\nok\t4\nview\t1\nbytes\t63\npaths\t/w/a.typ\nok\t5\nok\t5\nview\t2\nbytes\t62\nbytes\t63\n",
+        ),
+    ];
+    for (input, replies) in rows {
+        let (status, sink) = answers_over_a_file(rt.alloc(), input)?;
+        assert_eq!(rt; status, 0, "{input}");
+        assert_eq!(rt; sink.bytes(), replies.as_bytes(), "{input}");
     }
     Ok(())
 }

@@ -1,13 +1,11 @@
 //! The fields of a line, and the words that stand in them.
-ghost use Rattle.std.specs.Prelude.{◌≡◌, ◌∷◌, [], IfOk, IfSome, IfNone, true, false};
+ghost use Rattle.std.specs.Prelude.{◌≡◌, ◌<◌, ◌∷◌, [], IfOk, IfSome, IfNone, None, true, false};
 ghost use Rattle.std.specs.Option.{option_map, option_and_then};
 ghost use Rattle.std.specs.List.{list_all};
 ghost use Rattle.std.specs.String.{string_bytes};
-ghost use Rattle.ty_model.specs.Values.{Content};
 ghost use Rattle.ty_model.specs.Paths.{parts_at, clean};
 ghost use Rattle.tinymist_session.specs.Grammar as grammar;
 
-use hex::FromHexError;
 use std::alloc::Global;
 use ty_path::{OutOfMemory, clean, is_absolute};
 
@@ -101,19 +99,11 @@ pub(crate) fn path(alloc: Global, word: &str) -> Result<Option<CleanPath>, OutOf
     }
 }
 
-/// The bytes of a content: `=` and hexadecimal digits, two for each byte.
-pub(crate) fn content(alloc: Global, word: &str) -> Result<Option<Vec<u8>>, OutOfMemory>
-    ensures { IfOk result (λ bytes. option_map (λ b. Content b.items) bytes ≡ grammar.content_of word.now) }
+/// What stands after an ASCII sign.
+pub(crate) fn after_sign(sign: char, word: &str) -> Option<&str>
+    requires { sign < 128 }
+    ensures some { IfSome result (λ rest. word.now ≡ sign ∷ rest.now) }
+    ensures none { IfNone result (grammar.after_sign sign word.now ≡ None) }
 {
-    let Some((first, digits)) = word.as_bytes().split_first() else {
-        return Ok(None);
-    };
-    if *first != b'=' {
-        return Ok(None);
-    }
-    match hex::decode(alloc, digits) {
-        Ok(bytes) => Ok(Some(bytes)),
-        Err(FromHexError::OutOfMemory) => Err(OutOfMemory),
-        Err(_) => Ok(None),
-    }
+    word.strip_prefix(sign)
 }

@@ -1,0 +1,12 @@
+-- Changes so far, and those that are left.
+use Rattle.std.proofs.Common.{◌≡◌, refl, sym, ap, ◌∙◌, append_assoc, Option, Some, None}
+use Rattle.std.specs.Option.{option_map}
+use Rattle.tinymist_session.specs.Grammar.{Changes, with_changes, joined}
+
+joined_more : (done one : Changes) (left : Option Changes) → option_map (with_changes done) (joined (Some one) left) ≡ option_map (with_changes (with_changes done one)) left
+joined_more done one None = refl
+joined_more done one (Some c) = rw (append_assoc done.removes one.removes c.removes, append_assoc done.inserts one.inserts c.inserts) refl
+
+-- one more change was read
+pub one_more : (all : Option Changes) (done one next : Changes) (before left : Option Changes) → all ≡ option_map (with_changes done) before → before ≡ joined (Some one) left → next ≡ with_changes done one → all ≡ option_map (with_changes next) left
+one_more all done one next before left e f g = e ∙ ap (option_map (with_changes done)) f ∙ joined_more done one left ∙ ap (λ (n : Changes). option_map (with_changes n) left) (sym g)

@@ -1,0 +1,35 @@
+use Rattle.std.proofs.Common.{◌+◌, ◌-◌, ◌≤◌, ◌∙◌, ◌∷◌, [], sym, ap, subst, arith}
+use Rattle.std.specs.Prelude.{slice_set}
+use Rattle.std.proofs.lemmas.Option.{slice_get_read}
+use Rattle.ty_model.specs.Held.{Kept}
+use Rattle.tinymist_vfs.specs.declared.resolver.MockRootResolver.{MockRootResolver}
+use Rattle.tinymist_session.specs.Machine.{edit_step}
+use Rattle.tinymist_session.specs.Reply.{AtRevision}
+use Rattle.tinymist_session.specs.Said.{edit_said}
+use Rattle.tinymist_session.specs.Shown.{IsShown, top_revision}
+use Rattle.tinymist_session.proofs.Edits.{view_reply, view_shows, committed_rises, view_top, view_below}
+use Rattle.tinymist_session.proofs.machine.Machine.edit_target.Goals as goal
+
+pub edit_space-requires-2 : goal.edit_space-requires-2
+edit_space-requires-2 c =
+    let at = slice_get_read c.args.self.now.views.items c.len.result (c.args.target - 1) c.index_mut.result.now (omega (arith, c.len.ensures)) c.if-k-len.false c.index_mut.ensures.value in
+    omega (arith, c.requires, view_below c.args.self.now.live c.args.self.now.views.items (c.args.target - 1) c.index_mut.result.now at)
+
+pub returns-clause-reply : goal.returns-clause-reply
+returns-clause-reply c = λ s is.
+    let at = slice_get_read c.args.self.now.views.items c.len.result (c.args.target - 1) c.index_mut.result.now (omega (arith, c.len.ensures)) c.if-k-len.false c.index_mut.ensures.value in
+    let done = c.in_ok-revision-2.ensures.ok in
+    ap AtRevision (done.1 ∙ ap (λ (k : Kept MockRootResolver). k.held.revision) done.0)
+    ∙ view_reply c.args.self.now.live c.args.self.now.views.items c.args.self.now.tags s is (edit_said c.args.edit) c.args.target c.if-target-eq0.false c.index_mut.result.now at
+
+pub returns-clause-state : goal.returns-clause-state
+returns-clause-state c = λ s is.
+    let at = slice_get_read c.args.self.now.views.items c.len.result (c.args.target - 1) c.index_mut.result.now (omega (arith, c.len.ensures)) c.if-k-len.false c.index_mut.ensures.value in
+    subst (λ (k : Kept MockRootResolver). IsShown c.args.self.now.live (slice_set c.args.self.now.views.items (c.args.target - 1) k) c.args.self.now.tags (edit_step s c.args.target (edit_said c.args.edit)).state) (sym c.in_ok-revision-2.ensures.ok.0)
+    (view_shows c.args.self.now.live c.args.self.now.views.items c.args.self.now.tags s is (edit_said c.args.edit) c.args.target c.if-target-eq0.false c.index_mut.result.now at)
+
+pub returns-clause-revision : goal.returns-clause-revision
+returns-clause-revision c =
+    let at = slice_get_read c.args.self.now.views.items c.len.result (c.args.target - 1) c.index_mut.result.now (omega (arith, c.len.ensures)) c.if-k-len.false c.index_mut.ensures.value in
+    subst (λ (k : Kept MockRootResolver). top_revision c.args.self.now.live (slice_set c.args.self.now.views.items (c.args.target - 1) k) ≤ top_revision c.args.self.now.live c.args.self.now.views.items + 1) (sym c.in_ok-revision-2.ensures.ok.0)
+    (view_top c.args.self.now.live c.args.self.now.views.items (c.args.target - 1) c.index_mut.result.now _ at (committed_rises c.index_mut.result.now (edit_said c.args.edit ∷ [])))

@@ -1,0 +1,7 @@
+-- A change set of the code as the changes of a line.
+use Rattle.tinymist_vfs.specs.declared.item.FileChangeSet.{FileChangeSet}
+use Rattle.tinymist_vfs.specs.ChangeSet.{removed_paths, inserted_files}
+use Rattle.tinymist_session.specs.Grammar.{Changes}
+
+abbrev pub set_said : FileChangeSet → Changes
+set_said set = record { removes = removed_paths set; inserts = inserted_files set }

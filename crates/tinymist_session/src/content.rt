@@ -1,0 +1,74 @@
+//! Contents as lines write them.
+ghost use Rattle.std.specs.Prelude.{◌≡◌, IfOk};
+ghost use Rattle.std.specs.Option.{option_map};
+ghost use Rattle.tinymist_session.specs.Grammar as grammar;
+ghost use Rattle.tinymist_session.specs.Said.{content_said};
+
+use crate::words::after_sign;
+use hex::FromHexError;
+use std::alloc::Global;
+use ty_cells::FileSnapshot;
+use ty_path::OutOfMemory;
+use ty_syntax::{Bytes, FileError};
+
+/// A content as it is written in a line.
+#[derive(Drop)]
+pub(crate) enum ContentWord {
+    /// The bytes of a file.
+    Bytes(Vec<u8>),
+    /// No file, wherever it is said of.
+    Missing,
+    /// An error that carries no path.
+    Refused(FileError),
+}
+
+impl ContentWord {
+    /// What it says of a path: a missing file is missing there.
+    pub(crate) fn answer_at(self, alloc: Global, path: &str) -> Result<FileSnapshot, OutOfMemory>
+        ensures { IfOk result (λ answer. answer ≡ grammar.answer_at path.now (content_said self)) }
+    {
+        match self {
+            ContentWord::Bytes(bytes) => Ok(FileSnapshot::from_bytes(Bytes::new(alloc, bytes)?)),
+            ContentWord::Missing => {
+                let missing = String::from_str(alloc, path)?;
+                FileSnapshot::from_error(alloc, FileError::NotFound(missing))
+            }
+            ContentWord::Refused(error) => FileSnapshot::from_error(alloc, error),
+        }
+    }
+}
+
+/// A content: `=` and hexadecimal digits, two for each byte, or `!` and the name of an error.
+pub(crate) fn content(alloc: Global, word: &str) -> Result<Option<ContentWord>, OutOfMemory>
+    ensures { IfOk result (λ content. option_map content_said content ≡ grammar.content_of word.now) }
+{
+    if word == "!not-found" {
+        Ok(Some(ContentWord::Missing))
+    } else if word == "!access-denied" {
+        Ok(Some(ContentWord::Refused(FileError::AccessDenied)))
+    } else if word == "!is-directory" {
+        Ok(Some(ContentWord::Refused(FileError::IsDirectory)))
+    } else if word == "!not-source" {
+        Ok(Some(ContentWord::Refused(FileError::NotSource)))
+    } else if word == "!invalid-utf8" {
+        Ok(Some(ContentWord::Refused(FileError::InvalidUtf8)))
+    } else if word == "!other" {
+        Ok(Some(ContentWord::Refused(FileError::Other(None))))
+    } else {
+        match after_sign('=', word) {
+            Some(digits) => bytes(alloc, digits),
+            None => Ok(None),
+        }
+    }
+}
+
+/// The bytes of hexadecimal digits.
+fn bytes(alloc: Global, digits: &str) -> Result<Option<ContentWord>, OutOfMemory>
+    ensures { IfOk result (λ content. option_map content_said content ≡ grammar.bytes_of digits.now) }
+{
+    match hex::decode(alloc, digits.as_bytes()) {
+        Ok(bytes) => Ok(Some(ContentWord::Bytes(bytes))),
+        Err(FromHexError::OutOfMemory) => Err(OutOfMemory),
+        Err(_) => Ok(None),
+    }
+}

@@ -1,0 +1,17 @@
+//! Edits of a space.
+use crate::changes::CleanChanges;
+use crate::words::CleanPath;
+use ty_cells::FileSnapshot;
+
+/// An edit of a space.
+#[derive(Drop)]
+pub enum Edit {
+    /// Maps a path to what its file is to be.
+    MapPath(CleanPath, FileSnapshot),
+    /// Takes a path out of the overlay.
+    UnmapPath(CleanPath),
+    /// Empties the overlays.
+    Clear,
+    /// Tells a change set.
+    Notify(CleanChanges),
+}
