@@ -5,7 +5,7 @@ use Rattle.std.specs.Option.{option_map}
 use Rattle.std.specs.FinMap as finmap
 use Rattle.std.specs.FinMap.{put}
 use Rattle.std.proofs.lemmas.Bool.Decides.{eqb_tells}
-use Rattle.std.proofs.lemmas.List.{map-set, map-append}
+use Rattle.std.proofs.lemmas.List.{map-set}
 use Rattle.std.proofs.lemmas.Option.{slice_get-map, slice_get_past}
 use Rattle.ty_model.specs.Values.{Answer, id_cmp, text_cmp}
 use Rattle.ty_model.specs.Version as model

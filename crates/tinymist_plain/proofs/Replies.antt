@@ -16,13 +16,13 @@ use Rattle.ty_model.specs.Values.{Id, id_cmp, text_cmp, Answer}
 use Rattle.ty_model.specs.Version.{Version, same_id}
 use Rattle.ty_model.specs.Batch.{MapPath, UnmapPath, MapId, UnmapId, Clear, ChangeSet, ChangeView, commit, next_stamp}
 use Rattle.ty_model.specs.Places.{place_of}
-use Rattle.ty_model.specs.LookUp.{answer_by, look}
+use Rattle.ty_model.specs.LookUp.{answer_by}
 use Rattle.ty_model.specs.Space.{Space}
 use Rattle.tinymist_session.specs.Command.{Command, Edit, Snapshot, Read, Paths, IdWord}
 use Rattle.tinymist_session.specs.Reply.{Reply, AtRevision, ViewNumber, BadView, BadId, reply_to, reply_line}
 use Rattle.tinymist_session.specs.Machine.{State, opening, step, view_at, with_asked, read_step, read_in, id_for}
 use Rattle.tinymist_session.specs.Session.{replies_from, replies_to, commands_of}
-use Rattle.tinymist_plain.specs.Kept.{Lists, Listed, listed, lists_of, same_lists}
+use Rattle.tinymist_plain.specs.Kept.{Lists, Listed, listed, same_lists}
 use Rattle.tinymist_plain.specs.Worked.{no_files, default_limits, IsWorked}
 use Rattle.tinymist_plain.proofs.Edits.{mapped, committed}
 use Rattle.tinymist_plain.proofs.Lists.{entries-empty}

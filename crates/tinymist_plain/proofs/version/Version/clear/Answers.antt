@@ -1,4 +1,4 @@
-use Rattle.std.proofs.Common.{◌∙◌, refl, ap, map, List}
+use Rattle.std.proofs.Common.{◌∙◌, refl, ap, map}
 use Rattle.ty_path.specs.Shared.{path_text}
 use Rattle.tinymist_plain.specs.Lists.{pairs, put_all}
 use Rattle.tinymist_plain.specs.Kept.{layers_of, stamped}
