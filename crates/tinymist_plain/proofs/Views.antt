@@ -5,10 +5,9 @@ use Rattle.std.specs.List.{list_any}
 use Rattle.std.specs.Option.{option_map}
 use Rattle.std.proofs.lemmas.Option.{slice_get-map}
 use Rattle.std.proofs.Math.Seq.{map-set_same}
-use Rattle.ty_model.specs.Values.{Id}
+use Rattle.ty_model.specs.Values.{Id, Answer}
 use Rattle.ty_model.specs.Version as model
 use Rattle.ty_model.specs.Version.{same_id}
-use Rattle.ty_model.specs.Batch.{Item, applied, staged, next_stamp}
 use Rattle.ty_model.specs.LookUp.{look}
 use Rattle.ty_model.specs.Places.{id_by_parent}
 use Rattle.ty_model.specs.Disk.{Told}
@@ -17,40 +16,44 @@ use Rattle.tinymist_session.specs.Command.{PathWord}
 use Rattle.tinymist_session.specs.Reply.{reply_to}
 use Rattle.tinymist_session.specs.Machine as machine
 use Rattle.tinymist_session.specs.Machine.{view_at, with_asked, read_step, read_in}
-use Rattle.tinymist_plain.specs.Kept.{layers_of, version_of, space_of, part_of, IsKept}
+use Rattle.tinymist_plain.specs.Kept.{Listed, listed, version_of, space_of, part_of, IsKept}
 use Rattle.tinymist_plain.specs.declared.space.Space.{Space}
 use Rattle.tinymist_plain.specs.declared.state.State.{State}
 
-last_of : model.Version → List model.Version → model.Version
+last_of : Listed → List Listed → Listed
 last_of other [] = other
 last_of other (v ∷ vs) = v
 
 -- the last version of a space
-pub latest_is : (p : Space) (s : model_space.Space) → space_of p ≡ part_of s → version_of p.latest ≡ s.now
+pub latest_is : (p : Space) (s : model_space.Space) → space_of p ≡ part_of s → version_of p.latest ≡ listed s.now
 unfolding last_of
-latest_is p s is = ap (λ (k : ℕ × List model.Version). last_of s.now k.1) is
+latest_is p s is = ap (λ (k : ℕ × List Listed). last_of (listed s.now) k.1) is
 
 -- ---- views
 
 views_agree : (views : List Space) (spaces : List model_space.Space) (k : ℕ) → map space_of views ≡ map part_of spaces → option_map space_of (cond (k == 0) None (slice_get views (k - 1))) ≡ option_map part_of (view_at spaces k)
 views_agree views spaces k is = elim (k == 0) as (λ b. option_map space_of (cond b None (slice_get views (k - 1))) ≡ option_map part_of (cond b None (slice_get spaces (k - 1)))) [
   | true ↦ refl
-  | false ↦ sym (slice_get-map space_of views (k - 1)) ∙ ap (λ (vs : List (ℕ × List model.Version)). slice_get vs (k - 1)) is ∙ slice_get-map part_of spaces (k - 1)
+  | false ↦ sym (slice_get-map space_of views (k - 1)) ∙ ap (λ (vs : List (ℕ × List Listed)). slice_get vs (k - 1)) is ∙ slice_get-map part_of spaces (k - 1)
 ]
 
 some_same : {A : Type 0} (x y : A) → Some x ≡ Some y → x ≡ y
 some_same x y e = cc
 
+-- this is what the version has by each version of the definition that it stands for
+abbrev pub Looked : Space → Told → Id → Answer → Type 0
+Looked p told id answer = (v : model.Version) → version_of p.latest ≡ listed v → answer ≡ look v told id
+
 module _ (s : machine.State) (told : Told) (k : ℕ) (path : List ℕ) where
-  replied : (p : Space) (id : Id) (w : Option model_space.Space) → Some (space_of p) ≡ option_map part_of w → Some id ≡ id_by_parent path → reply_to (look (version_of p.latest) told id) ≡ (read_step s told k (PathWord path) w).reply
-  replied p id None is named = absurd (cc)
-  replied p id (Some w) is named =
-      ap (λ (v : model.Version). reply_to (look v told id)) (latest_is p w (some_same (space_of p) (part_of w) is))
+  replied : (p : Space) (id : Id) (answer : Answer) (w : Option model_space.Space) → Some (space_of p) ≡ option_map part_of w → Some id ≡ id_by_parent path → Looked p told id answer → reply_to answer ≡ (read_step s told k (PathWord path) w).reply
+  replied p id answer None is named looked = absurd (cc)
+  replied p id answer (Some w) is named looked =
+      ap reply_to (looked w.now (latest_is p w (some_same (space_of p) (part_of w) is)))
       ∙ ap (λ (o : Option Id). (read_in s told k w o).reply) named
 
-  pub view_replies : (views : List Space) (p : Space) (id : Id) → map space_of views ≡ map part_of s.views → Some p ≡ cond (k == 0) None (slice_get views (k - 1)) → Some id ≡ id_by_parent path
-      → reply_to (look (version_of p.latest) told id) ≡ (read_step s told k (PathWord path) (view_at s.views k)).reply
-  view_replies views p id is here named = replied p id (view_at s.views k) (ap (option_map space_of) here ∙ views_agree views s.views k is) named
+  pub view_replies : (views : List Space) (p : Space) (id : Id) (answer : Answer) → map space_of views ≡ map part_of s.views → Some p ≡ cond (k == 0) None (slice_get views (k - 1)) → Some id ≡ id_by_parent path → Looked p told id answer
+      → reply_to answer ≡ (read_step s told k (PathWord path) (view_at s.views k)).reply
+  view_replies views p id answer here is named looked = replied p id answer (view_at s.views k) (ap (option_map space_of) is ∙ views_agree views s.views k here) named looked
 
 -- ---- what a read leaves
 
@@ -83,12 +86,3 @@ module _ (p : State) (s : machine.State) (told : Told) (k : ℕ) (path : List �
 
   pub read_keeps : IsKept p (read_step s told k (PathWord path) (view_at s.views k)).state
   read_keeps = kept_by (view_at s.views k) refl
-
--- ---- one edit
-
--- the layers of an edited copy are those after the edit's batch
-pub edited_layers : (p : Space) (s : model_space.Space) (copied edited : model.Layers) (item : Item) → space_of p ≡ part_of s → copied ≡ layers_of p.latest.shadows.items
-    → ((stamp : model.Stamp) → edited ≡ applied stamp copied item) → edited ≡ staged s.number s.now.revision s.now.layers (item ∷ [])
-edited_layers p s copied edited item is same by =
-    by (next_stamp s.number s.now.revision)
-    ∙ ap (λ (l : model.Layers). applied (next_stamp s.number s.now.revision) l item) (same ∙ ap (λ (v : model.Version). v.layers) (latest_is p s is))

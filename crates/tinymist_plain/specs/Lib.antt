@@ -1,3 +1,4 @@
+pub mod Lists
 pub mod Kept
-pub mod Ended
 pub mod Worked
+pub mod Ended

@@ -2,11 +2,13 @@
 //! definition, so that what it answers can be held against any other body.
 #![tactic(auto)]
 
+mod entries;
 mod lines;
 mod place;
 mod rows;
 mod session;
 mod space;
+mod stamp;
 mod state;
 mod version;
 

@@ -1,17 +1,19 @@
 //! A space as all its versions.
-ghost use Rattle.std.specs.Prelude.{◌≡◌, ◌+◌, ◌-◌, ◌^◌, ◌<◌, ◌≤◌, ◌∷◌, [], List, false, IfOk, OnOk};
+ghost use Rattle.std.specs.Prelude.{◌≡◌, ◌+◌, ◌-◌, ◌^◌, ◌<◌, ◌≤◌, ◌∷◌, [], false, IfOk, OnOk};
 ghost use Rattle.std.specs.FinMap as finmap;
 ghost use Rattle.ty_model.specs.Version.{first_version};
 ghost use Rattle.ty_model.specs.Batch as batch;
-ghost use Rattle.ty_model.specs.Batch.{staged, changes_view};
+ghost use Rattle.ty_model.specs.Batch.{staged, is_view};
 ghost use Rattle.ty_model.specs.Space as model;
 ghost use Rattle.ty_model.specs.Space.{after_commit};
-ghost use Rattle.tinymist_plain.specs.Kept.{layers_of, version_of, space_of, part_of};
+ghost use Rattle.tinymist_session.specs.Said.{edit_said};
+ghost use Rattle.tinymist_plain.specs.Kept.{layers_of, lists_of, listed, version_of, space_of, part_of};
 
+use crate::stamp::Stamp;
 use crate::version::Version;
 use std::alloc::Global;
 use std::mem;
-use ty_cells::FileSnapshot;
+use tinymist_session::Edit;
 use ty_path::OutOfMemory;
 
 /// The last version, and those before it, the newest first.
@@ -25,7 +27,7 @@ pub(crate) struct Space {
 impl Space {
     /// The space at the start: one version, in which nothing is mapped.
     pub(crate) fn first(alloc: Global) -> Space
-        ensures { space_of result ≡ (1, first_version 1 finmap.empty ∷ []) }
+        ensures { space_of result ≡ (1, listed (first_version 1 finmap.empty) ∷ []) }
     {
         Space {
             number: 1,
@@ -49,27 +51,23 @@ impl Space {
         })
     }
 
-    /// Maps a path.
-    pub(crate) fn map_path(
-        &mut self,
-        alloc: Global,
-        path: &str,
-        answer: FileSnapshot,
-    ) -> Result<(), OutOfMemory>
+    /// Edits the last version.
+    pub(crate) fn edit(&mut self, alloc: Global, edit: &Edit) -> Result<(), OutOfMemory>
         requires { self.old.latest.revision < 2 ^ 64 - 1 }
-        ensures space { (s : model.Space) → space_of self.old ≡ part_of s → OnOk result (space_of self.new ≡ part_of (after_commit s (batch.MapPath path.now answer ∷ []))) }
+        ensures space { (s : model.Space) → space_of self.old ≡ part_of s → OnOk result (space_of self.new ≡ part_of (after_commit s (edit_said edit.now ∷ []))) }
         ensures revision { self.new.latest.revision ≤ self.old.latest.revision + 1 }
     {
+        let stamp = Stamp::new(self.number, self.latest.revision + 1);
         let mut edited = self.latest.copy(alloc)?;
-        edited.map_path(alloc, path, answer)?;
+        edited.edit(alloc, edit, stamp)?;
         self.take_in(edited)
     }
 
     /// The version that an edit made of the last one comes after it, where something differs.
     fn take_in(&mut self, mut edited: Version) -> Result<(), OutOfMemory>
         requires { self.old.latest.revision < 2 ^ 64 - 1 }
-        ensures space { (s : model.Space) (items : List batch.Item) → space_of self.old ≡ part_of s → changes_view items ≡ false
-            → layers_of edited.shadows.items ≡ staged s.number s.now.revision s.now.layers items → OnOk result (space_of self.new ≡ part_of (after_commit s items)) }
+        ensures space { (s : model.Space) (item : batch.Item) → space_of self.old ≡ part_of s → is_view item ≡ false
+            → layers_of edited ≡ lists_of (staged s.number s.now.revision s.now.layers (item ∷ [])) → OnOk result (space_of self.new ≡ part_of (after_commit s (item ∷ []))) }
         ensures revision { self.new.latest.revision ≤ self.old.latest.revision + 1 }
     {
         if self.latest.same_layers(&edited) {

@@ -1,21 +1,20 @@
 //! The state of the plain program: the live space, and a whole copy of it for each view.
 ghost use Rattle.std.specs.Prelude.{◌≡◌, ◌+◌, ◌-◌, ◌^◌, ◌<◌, ◌≤◌, ◌==◌, if◌then◌else◌, slice_get, IfOk, OnOk};
 ghost use Rattle.std.specs.Option.{option_copied};
-ghost use Rattle.ty_model.specs.Values.{Content};
 ghost use Rattle.ty_model.specs.Disk.{Told, IsFixed};
 ghost use Rattle.tinymist_session.specs.Command as command;
 ghost use Rattle.tinymist_session.specs.Machine as machine;
 ghost use Rattle.tinymist_session.specs.Reply.{reply_to};
-ghost use Rattle.tinymist_session.specs.Said.{command_of, reply_of};
-ghost use Rattle.tinymist_plain.specs.Kept.{IsKept};
+ghost use Rattle.tinymist_session.specs.Said.{command_of, edit_said, reply_of};
+ghost use Rattle.tinymist_plain.specs.Kept.{IsKept, top_revision};
 
 use crate::place::id_for;
 use crate::space::Space;
 use std::alloc::Global;
-use tinymist_session::{Command, Reply};
+use tinymist_session::{Command, Edit, Reply};
 use ty_cells::{FileSnapshot, PathAccessModel};
 use ty_path::OutOfMemory;
-use ty_syntax::{Bytes, FileFault};
+use ty_syntax::FileFault;
 
 /// The live space, the views with view 1 first, and the next number of a space.
 #[derive(Drop)]
@@ -29,7 +28,7 @@ impl State {
     /// The state at the start.
     pub(crate) fn opening(alloc: Global) -> State
         ensures kept { IsKept result machine.opening }
-        ensures revision { result.live.latest.revision ≡ 2 }
+        ensures revision { top_revision result ≡ 2 }
         ensures space { result.next_space ≡ 2 }
     {
         State {
@@ -46,32 +45,60 @@ impl State {
         disk: &mut M,
         command: &Command,
     ) -> Result<Reply, OutOfMemory>
-        requires revision { self.old.live.latest.revision < 2 ^ 64 - 1 }
+        requires revision { top_revision self.old < 2 ^ 64 - 1 }
         requires space { self.old.next_space < 2 ^ 64 - 1 }
         ensures reply { (told : Told) (s : machine.State) → M.told disk.old ≡ Some told → IsKept self.old s → IfOk result (λ r. reply_of r ≡ (machine.step s told (command_of command.now)).reply) }
         ensures state { (told : Told) (s : machine.State) → M.told disk.old ≡ Some told → IsKept self.old s → OnOk result (IsKept self.new (machine.step s told (command_of command.now)).state) }
         ensures left { (told : Told) → M.told disk.old ≡ Some told → IsFixed told → M.told disk.new ≡ Some told }
-        ensures revision { self.new.live.latest.revision ≤ self.old.live.latest.revision + 1 }
+        ensures revision { top_revision self.new ≤ top_revision self.old + 1 }
         ensures space { self.new.next_space ≤ self.old.next_space + 1 }
     {
         match command {
-            Command::Map(path, bytes) => self.map_path(alloc, path.as_str(), bytes),
+            Command::Edit(target, edit) => self.edit_target(alloc, *target, edit),
             Command::Snapshot => self.take_snapshot(alloc),
             Command::Read(view, path) => self.read_view(alloc, disk, *view, path.as_str()),
+            Command::Paths(target) => self.list_paths(alloc, *target),
         }
     }
 
-    /// Maps a file of the live state.
-    fn map_path(&mut self, alloc: Global, path: &str, bytes: &[u8]) -> Result<Reply, OutOfMemory>
-        requires { self.old.live.latest.revision < 2 ^ 64 - 1 }
-        ensures reply { (s : machine.State) → IsKept self.old s → IfOk result (λ r. reply_of r ≡ (machine.map_step s path.now (Content bytes.now)).reply) }
-        ensures state { (s : machine.State) → IsKept self.old s → OnOk result (IsKept self.new (machine.map_step s path.now (Content bytes.now)).state) }
-        ensures revision { self.new.live.latest.revision ≤ self.old.live.latest.revision + 1 }
+    /// Edits a target, and answers its revision.
+    fn edit_target(&mut self, alloc: Global, target: u64, edit: &Edit) -> Result<Reply, OutOfMemory>
+        requires { top_revision self.old < 2 ^ 64 - 1 }
+        ensures reply { (s : machine.State) → IsKept self.old s → IfOk result (λ r. reply_of r ≡ (machine.edit_step s target (edit_said edit.now)).reply) }
+        ensures state { (s : machine.State) → IsKept self.old s → OnOk result (IsKept self.new (machine.edit_step s target (edit_said edit.now)).state) }
+        ensures revision { top_revision self.new ≤ top_revision self.old + 1 }
         ensures space { self.new.next_space ≡ self.old.next_space }
     {
-        let answer = FileSnapshot::from_bytes(Bytes::new(alloc, bytes.to_vec(alloc)?)?);
-        self.live.map_path(alloc, path, answer)?;
-        Ok(Reply::AtRevision(self.live.latest.revision))
+        if target == 0 {
+            self.live.edit(alloc, edit)?;
+            return Ok(Reply::AtRevision(self.live.latest.revision));
+        }
+        let k = (target - 1) as usize;
+        if k >= self.views.len() {
+            return Ok(Reply::BadView);
+        }
+        self.views[k].edit(alloc, edit)?;
+        Ok(Reply::AtRevision(self.views[k].latest.revision))
+    }
+
+    /// Lists the paths of the overlay of a target.
+    fn list_paths(&self, alloc: Global, target: u64) -> Result<Reply, OutOfMemory>
+        ensures { (s : machine.State) → IsKept self.now s → IfOk result (λ r. reply_of r ≡ machine.paths_reply (machine.space_at s target)) }
+    {
+        match self.space(target) {
+            Some(space) => Ok(Reply::PathList(space.latest.paths(alloc)?)),
+            None => Ok(Reply::BadView),
+        }
+    }
+
+    /// The space of a target.
+    fn space(&self, target: u64) -> Option<&Space>
+        ensures { option_copied result ≡ (if target == 0 then Some self.now.live else if target == 0 then None else slice_get self.now.views.items (target - 1)) }
+    {
+        if target == 0 {
+            return Some(&self.live);
+        }
+        view_of(&self.views, target)
     }
 
     /// Copies the live space whole, as the next view.
@@ -79,7 +106,7 @@ impl State {
         requires { self.old.next_space < 2 ^ 64 - 1 }
         ensures reply { (s : machine.State) → IsKept self.old s → IfOk result (λ r. reply_of r ≡ (machine.snapshot_step s).reply) }
         ensures state { (s : machine.State) → IsKept self.old s → OnOk result (IsKept self.new (machine.snapshot_step s).state) }
-        ensures revision { self.new.live.latest.revision ≡ self.old.live.latest.revision }
+        ensures revision { top_revision self.new ≤ top_revision self.old }
         ensures space { self.new.next_space ≤ self.old.next_space + 1 }
     {
         let view = self.live.copy(alloc, self.next_space)?;

@@ -137,8 +137,76 @@ fn a_file_of_the_disk(rt: HostRuntime) -> Result<(), Fail> {
             "snapshot\nmap\t0\t/w/a.typ\t=62\nsnapshot\nread\t2\t/w/a.typ\nread\t1\t/w/a.typ\n",
             "view\t1\nok\t3\nview\t2\nbytes\t62\nbytes\t61\n",
         ),
+        // A file that is told to be missing, and then is dropped.
+        (
+            "notify\t+/w/a.typ\t!not-found\nsnapshot\nread\t1\t/w/a.typ\nnotify\t-/w/a.typ\nsnapshot\nread\t2\t/w/a.typ\n",
+            "ok\t3\nview\t1\nfail\tnot-found\nok\t4\nview\t2\nbytes\t61\n",
+        ),
+        // The overlay before what is told, and that before the disk.
+        (
+            "notify\t+/w/a.typ\t=62\nmap\t0\t/w/a.typ\t=63\nsnapshot\nread\t1\t/w/a.typ\npaths\t0\nclear\t0\nclear\t0\nsnapshot\nread\t2\t/w/a.typ\nnotify\t-/w/a.typ\nsnapshot\nread\t3\t/w/a.typ\n",
+            "ok\t3\nok\t4\nview\t1\nbytes\t63\npaths\t/w/a.typ\nok\t5\nok\t5\nview\t2\nbytes\t62\nok\t6\nview\t3\nbytes\t61\n",
+        ),
     ];
     let mut disk = disk_of(rt.alloc(), Some(("/w/a.typ", b"a")))?;
+    for (input, replies) in rows {
+        compare(
+            &rt,
+            input.as_bytes(),
+            &mut disk,
+            DEFAULT_LIMITS,
+            replies,
+            End::Whole,
+        )?;
+    }
+    Ok(())
+}
+
+#[test]
+fn edits_of_all_kinds(rt: HostRuntime) -> Result<(), Fail> {
+    let rows = [
+        // Change sets: an equal one leaves the revision, an empty one too, and a path that is dropped and told again doesn't.
+        (
+            "notify\t+/w/a.typ\t=61\t+/w/b.typ\t=62\nnotify\t+/w/a.typ\t=63\t+/w/b.typ\t=62\nsnapshot\nread\t1\t/w/a.typ\nnotify\nnotify\t-/w/b.typ\t+/w/b.typ\t=62\nsnapshot\nread\t2\t/w/b.typ\n",
+            "ok\t3\nok\t4\nview\t1\nbytes\t63\nok\t4\nok\t5\nview\t2\nbytes\t62\n",
+        ),
+        // Removes come before inserts wherever they stand, and the last insert of a path counts.
+        (
+            "notify\t+/a\t=61\t-/a\t-/a\t+/a\t=62\nsnapshot\nread\t1\t/a\nnotify\t-/b\t-/b\nnotify\t-/b\nnotify\t+/a\t=62\t+/a\t=62\n",
+            "ok\t3\nview\t1\nbytes\t62\nok\t4\nok\t5\nok\t5\n",
+        ),
+        // Paths ascend by their bytes, each once, and an unmapped one goes.
+        (
+            "paths\t0\nmap\t0\t/b\t=62\nmap\t0\t/a/b\t=61\nmap\t0\t/a\t=61\nmap\t0\t/b\t=63\nmap\t0\t/ab\t=\npaths\t0\nunmap\t0\t/a\npaths\t0\n",
+            "paths\nok\t3\nok\t4\nok\t5\nok\t6\nok\t7\npaths\t/a\t/a/b\t/ab\t/b\nok\t8\npaths\t/a/b\t/ab\t/b\n",
+        ),
+        // An unmap drops its path, mapped or not, each time.
+        (
+            "unmap\t0\t/a\nunmap\t0\t/a\nclear\t0\nmap\t0\t/a\t=61\nclear\t0\nclear\t0\n",
+            "ok\t3\nok\t4\nok\t4\nok\t5\nok\t6\nok\t6\n",
+        ),
+        // Told files don't end with the overlay.
+        (
+            "notify\t+/a\t=61\nmap\t0\t/a\t=62\nsnapshot\nread\t1\t/a\nclear\t0\nsnapshot\nread\t2\t/a\nread\t1\t/a\n",
+            "ok\t3\nok\t4\nview\t1\nbytes\t62\nok\t5\nview\t2\nbytes\t61\nbytes\t62\n",
+        ),
+        // Told errors.
+        (
+            "map\t0\t/a\t!not-found\nmap\t0\t/b\t!access-denied\nmap\t0\t/c\t!is-directory\nmap\t0\t/d\t!not-source\nmap\t0\t/e\t!invalid-utf8\nmap\t0\t/f\t!other\nsnapshot\nread\t1\t/a\nread\t1\t/b\nread\t1\t/c\nread\t1\t/d\nread\t1\t/e\nread\t1\t/f\nnotify\t+/f\t!other\nmap\t0\t/a\t!not-found\n",
+            "ok\t3\nok\t4\nok\t5\nok\t6\nok\t7\nok\t8\nview\t1\nfail\tnot-found\nfail\taccess-denied\nfail\tis-directory\nfail\tnot-source\nfail\tinvalid-utf8\nfail\tother\nok\t9\nok\t9\n",
+        ),
+        // Edits of a view leave the live state and the other views.
+        (
+            "map\t0\t/a\t=61\nsnapshot\nsnapshot\nmap\t1\t/a\t=62\nmap\t1\t/b\t=63\nread\t1\t/a\nread\t2\t/a\npaths\t1\npaths\t0\nunmap\t1\t/a\nread\t1\t/a\nclear\t2\npaths\t2\nread\t2\t/a\nclear\t1\npaths\t1\nmap\t0\t/a\t=61\n",
+            "ok\t3\nview\t1\nview\t2\nok\t4\nok\t5\nbytes\t62\nbytes\t61\npaths\t/a\t/b\npaths\t/a\nok\t6\nfail\tnot-found\nok\t4\npaths\nfail\tnot-found\nok\t7\npaths\nok\t3\n",
+        ),
+        // There is no such view.
+        (
+            "map\t1\t/a\t=61\nunmap\t1\t/a\nclear\t1\npaths\t1\nsnapshot\nmap\t2\t/a\t=61\nunmap\t18446744073709551615\t/a\nclear\t2\npaths\t2\npaths\t1\n",
+            "err\tview\nerr\tview\nerr\tview\nerr\tview\nview\t1\nerr\tview\nerr\tview\nerr\tview\nerr\tview\npaths\n",
+        ),
+    ];
+    let mut disk = disk_of(rt.alloc(), None)?;
     for (input, replies) in rows {
         compare(
             &rt,
@@ -155,7 +223,7 @@ fn a_file_of_the_disk(rt: HostRuntime) -> Result<(), Fail> {
 // Each is no sentence: a first line is answered, and the last one never is.
 #[test]
 fn lines_that_are_no_sentence(rt: HostRuntime) -> Result<(), Fail> {
-    let rows: [&[u8]; 28] = [
+    let rows: [&[u8]; 52] = [
         b"\n",
         b"snapshot\r\n",
         b"snapshot\x00\n",
@@ -170,7 +238,7 @@ fn lines_that_are_no_sentence(rt: HostRuntime) -> Result<(), Fail> {
         b"map\t0\t/w/\t=61\n",
         b"map\t0\t/w/.\t=61\n",
         b"map\t00\t/a\t=61\n",
-        b"map\t1\t/a\t=61\n",
+        b"map\t\t/a\t=61\n",
         b"map\t0\t/a\t=6\n",
         b"map\t0\t/a\t=6g\n",
         b"map\t0\t/a\t61\n",
@@ -184,6 +252,30 @@ fn lines_that_are_no_sentence(rt: HostRuntime) -> Result<(), Fail> {
         b"read\t18446744073709551616\t/a\n",
         b"read\t+1\t/a\n",
         b"read\t1\ta\n",
+        b"unmap\t0\n",
+        b"unmap\t0\t/a\t\n",
+        b"unmap\t0\ta\n",
+        b"unmap\t\t/a\n",
+        b"clear\n",
+        b"clear\t\n",
+        b"clear\t00\n",
+        b"clear\t0\t/a\n",
+        b"paths\n",
+        b"paths\t-1\n",
+        b"paths\t0\t/a\n",
+        b"notify\t\n",
+        b"notify\t/a\n",
+        b"notify\t-\n",
+        b"notify\t-a\n",
+        b"notify\t+/a\n",
+        b"notify\t+/a\t61\n",
+        b"notify\t+/a\t=6\n",
+        b"notify\t+/a\t=61\t=62\n",
+        b"notify\t-/a\t=61\n",
+        b"notify\t-/a\t\n",
+        b"map\t0\t/a\t!\n",
+        b"map\t0\t/a\t!found\n",
+        b"map\t0\t/a\t!Other\n",
     ];
     let alloc = rt.alloc();
     let mut disk = disk_of(alloc, None)?;

@@ -1,44 +1,51 @@
-//! A version as a plain list: an entry for each edit, the newest first.
-ghost use Rattle.std.specs.Prelude.{◌≡◌, IfOk, OnOk};
-ghost use Rattle.std.specs.Option.{option_copied};
-ghost use Rattle.std.specs.String.{string_bytes};
-ghost use Rattle.std.specs.List.{list_all};
+//! A version as plain lists: what its overlay maps, what is told, and when paths were dropped.
+ghost use Rattle.std.specs.Prelude.{◌≡◌, map, IfOk, OnOk};
+ghost use Rattle.std.specs.Option.{option_copied, option_or};
 ghost use Rattle.std.specs.FinMap as finmap;
+ghost use Rattle.ty_model.specs.Values.{text_cmp};
 ghost use Rattle.ty_model.specs.Version as model;
 ghost use Rattle.ty_model.specs.Version.{first_version};
 ghost use Rattle.ty_model.specs.Batch as batch;
-ghost use Rattle.ty_model.specs.LookUp.{look, answer_by, path_decision};
+ghost use Rattle.ty_model.specs.LookUp.{look};
 ghost use Rattle.ty_model.specs.Disk.{Told, IsFixed};
-ghost use Rattle.tinymist_plain.specs.Kept.{entry_of, layers_of, version_of, mapped_at, agree_at};
+ghost use Rattle.ty_path.specs.Shared.{path_text};
+ghost use Rattle.tinymist_vfs.specs.Items.{file_of};
+ghost use Rattle.tinymist_session.specs.Said.{edit_said};
+ghost use Rattle.tinymist_session.specs.ChangeSets.{set_said};
+ghost use Rattle.tinymist_plain.specs.Lists.{pairs, put_all, without_all};
+ghost use Rattle.tinymist_plain.specs.Kept.{layers_of, version_of, lists_of, listed, said_at, same_lists, stamped};
 
+use crate::entries::{
+    Entry, copy_answers, copy_stamps, find, put, remove, same_answers, same_stamps,
+};
 use crate::place::path_for;
+use crate::stamp::Stamp;
 use std::alloc::Global;
+use std::sync::Arc;
+use tinymist_session::{CleanChanges, Edit};
 use ty_cells::{FileSnapshot, PathAccessModel};
-use ty_path::{OutOfMemory, Share};
+use ty_path::{ImmutPath, OutOfMemory, Share};
 use ty_syntax::{FileFault, FileId};
 
-/// What an edit mapped at a path.
-#[derive(Drop)]
-pub(crate) struct Shadow {
-    path: String,
-    answer: FileSnapshot,
-}
-
-/// What is mapped, at a revision.
+/// What is mapped, told and dropped, at a revision.
 #[derive(Drop)]
 pub(crate) struct Version {
     pub(crate) revision: u64,
-    shadows: Vec<Shadow>,
+    by_path: Vec<Entry<FileSnapshot>>,
+    told: Vec<Entry<FileSnapshot>>,
+    drops: Vec<Entry<Stamp>>,
 }
 
 impl Version {
     /// The first version, in which nothing is mapped.
     pub(crate) fn first(alloc: Global) -> Version
-        ensures { version_of result ≡ first_version 1 finmap.empty }
+        ensures { version_of result ≡ listed (first_version 1 finmap.empty) }
     {
         Version {
             revision: 2,
-            shadows: Vec::new(alloc),
+            by_path: Vec::new(alloc),
+            told: Vec::new(alloc),
+            drops: Vec::new(alloc),
         }
     }
 
@@ -46,47 +53,99 @@ impl Version {
     pub(crate) fn copy(&self, alloc: Global) -> Result<Version, OutOfMemory>
         ensures { IfOk result (λ v. version_of v ≡ version_of self.now) }
     {
-        let mut shadows = Vec::new(alloc);
-        for shadow in &self.shadows {
-            shadows.push(shadow.copy(alloc)?)?;
-        }
         Ok(Version {
             revision: self.revision,
-            shadows,
+            by_path: copy_answers(alloc, &self.by_path)?,
+            told: copy_answers(alloc, &self.told)?,
+            drops: copy_stamps(alloc, &self.drops)?,
         })
     }
 
+    /// Edits it, where drops get this stamp.
+    pub(crate) fn edit(
+        &mut self,
+        alloc: Global,
+        edit: &Edit,
+        stamp: Stamp,
+    ) -> Result<(), OutOfMemory>
+        ensures layers { (l : model.Layers) → layers_of self.old ≡ lists_of l → OnOk result (layers_of self.new ≡ lists_of (batch.applied stamp l (edit_said edit.now))) }
+        ensures revision { self.new.revision ≡ self.old.revision }
+    {
+        match edit {
+            Edit::MapPath(path, answer) => self.map_path(alloc, path.as_str(), answer),
+            Edit::UnmapPath(path) => self.unmap_path(alloc, path.as_str(), stamp),
+            Edit::Clear => self.clear(alloc, stamp),
+            Edit::Notify(changes) => self.notify(alloc, changes, stamp),
+        }
+    }
+
     /// Maps a path, whatever was mapped there.
-    pub(crate) fn map_path(
+    fn map_path(
         &mut self,
         alloc: Global,
         path: &str,
-        answer: FileSnapshot,
+        answer: &FileSnapshot,
     ) -> Result<(), OutOfMemory>
-        ensures layers { (stamp : model.Stamp) → OnOk result (layers_of self.new.shadows.items ≡ batch.applied stamp (layers_of self.old.shadows.items) (batch.MapPath path.now answer)) }
+        ensures layers { (stamp : model.Stamp) (l : model.Layers) → layers_of self.old ≡ lists_of l → OnOk result (layers_of self.new ≡ lists_of (batch.applied stamp l (batch.MapPath path.now answer.now))) }
         ensures revision { self.new.revision ≡ self.old.revision }
     {
         let path = String::from_str(alloc, path)?;
-        self.shadows.insert(0, Shadow { path, answer })?;
+        put(&mut self.by_path, path, answer.share(alloc)?)
+    }
+
+    /// Takes away what is mapped at a path, and drops the path.
+    fn unmap_path(&mut self, alloc: Global, path: &str, stamp: Stamp) -> Result<(), OutOfMemory>
+        ensures layers { (l : model.Layers) → layers_of self.old ≡ lists_of l → OnOk result (layers_of self.new ≡ lists_of (batch.applied stamp l (batch.UnmapPath path.now))) }
+        ensures revision { self.new.revision ≡ self.old.revision }
+    {
+        remove(&mut self.by_path, path);
+        put(&mut self.drops, String::from_str(alloc, path)?, stamp)
+    }
+
+    /// Takes away all that is mapped, and drops those paths.
+    fn clear(&mut self, alloc: Global, stamp: Stamp) -> Result<(), OutOfMemory>
+        ensures layers { (l : model.Layers) → layers_of self.old ≡ lists_of l → OnOk result (layers_of self.new ≡ lists_of (batch.applied stamp l batch.Clear)) }
+        ensures revision { self.new.revision ≡ self.old.revision }
+    {
+        let paths = self.paths(alloc)?;
+        drop_paths(alloc, &mut self.drops, &paths, stamp)?;
+        self.by_path = Vec::new(alloc);
         Ok(())
     }
 
-    /// Whether both map the same.
-    pub(crate) fn same_layers(&self, other: &Version) -> bool
-        ensures { result ≡ batch.same_layers (layers_of self.now.shadows.items) (layers_of other.now.shadows.items) }
+    /// Tells a change set: its removed paths are dropped, and then its files are told.
+    fn notify(
+        &mut self,
+        alloc: Global,
+        changes: &CleanChanges,
+        stamp: Stamp,
+    ) -> Result<(), OutOfMemory>
+        ensures layers { (l : model.Layers) → layers_of self.old ≡ lists_of l → OnOk result (layers_of self.new ≡ lists_of (batch.applied stamp l (batch.ChangeSet (set_said changes.now.set).removes (set_said changes.now.set).inserts))) }
+        ensures revision { self.new.revision ≡ self.old.revision }
     {
-        self.agrees_with(other) && other.agrees_with(self)
+        remove_paths(&mut self.told, changes.removes());
+        put_files(alloc, &mut self.told, changes.inserts())?;
+        drop_paths(alloc, &mut self.drops, changes.removes(), stamp)
     }
 
-    /// Whether both map the same at each path of an entry of this one.
-    fn agrees_with(&self, other: &Version) -> bool
-        ensures { result ≡ list_all (λ s. agree_at self.now.shadows.items other.now.shadows.items (string_bytes s.path)) self.now.shadows.items }
+    /// The paths at which something is mapped, ascending.
+    pub(crate) fn paths(&self, alloc: Global) -> Result<Vec<ImmutPath>, OutOfMemory>
+        ensures { IfOk result (λ paths. map path_text paths.items ≡ map (λ e. e.0) (pairs self.now.by_path.items)) }
     {
-        self.shadows.iter().all(|shadow| agree_at(
-            &self.shadows,
-            &other.shadows,
-            shadow.path.as_str(),
-        ))
+        let mut paths = Vec::new(alloc);
+        for entry in &self.by_path {
+            paths.push(Arc::new(alloc, entry.path.clone()?)?)?;
+        }
+        Ok(paths)
+    }
+
+    /// Whether both have the same lists.
+    pub(crate) fn same_layers(&self, other: &Version) -> bool
+        ensures { result ≡ same_lists (layers_of self.now) (layers_of other.now) }
+    {
+        same_answers(&other.by_path, &self.by_path)
+            && same_answers(&other.told, &self.told)
+            && same_stamps(&other.drops, &self.drops)
     }
 
     /// What an id has: by this version, or else by the disk.
@@ -96,7 +155,7 @@ impl Version {
         disk: &mut M,
         id: &FileId,
     ) -> Result<FileSnapshot, OutOfMemory>
-        ensures answer { (told : Told) → M.told disk.old ≡ Some told → IfOk result (λ said. said ≡ look (version_of self.now) told id.now) }
+        ensures answer { (told : Told) (v : model.Version) → M.told disk.old ≡ Some told → version_of self.now ≡ listed v → IfOk result (λ said. said ≡ look v told id.now) }
         ensures left { (told : Told) → M.told disk.old ≡ Some told → IsFixed told → M.told disk.new ≡ Some told }
     {
         match path_for(alloc, id) {
@@ -113,46 +172,61 @@ impl Version {
         disk: &mut M,
         path: &str,
     ) -> Result<FileSnapshot, OutOfMemory>
-        ensures answer { (told : Told) → M.told disk.old ≡ Some told → IfOk result (λ said. said ≡ answer_by (path_decision (layers_of self.now.shadows.items) path.now) told) }
+        ensures answer { (told : Told) → M.told disk.old ≡ Some told → IfOk result (λ said. said ≡ said_at (layers_of self.now) told path.now) }
         ensures left { (told : Told) → M.told disk.old ≡ Some told → IsFixed told → M.told disk.new ≡ Some told }
     {
-        match mapped_at(&self.shadows, path) {
+        match self.said_of(path) {
             Some(answer) => answer.share(alloc),
             None => disk.content(alloc, path),
         }
     }
-}
 
-impl Shadow {
-    fn copy(&self, alloc: Global) -> Result<Shadow, OutOfMemory>
-        ensures { IfOk result (λ s. entry_of s ≡ entry_of self.now) }
+    /// What is mapped at a path, or else told of it.
+    fn said_of(&self, path: &str) -> Option<&FileSnapshot>
+        ensures { option_copied result ≡ option_or (finmap.find text_cmp path.now (layers_of self.now).by_path) (finmap.find text_cmp path.now (layers_of self.now).told) }
     {
-        Ok(Shadow {
-            path: self.path.clone()?,
-            answer: self.answer.share(alloc)?,
-        })
-    }
-}
-
-/// What the first entry of a path maps there.
-fn mapped_at<'s>(shadows: &'s [Shadow], path: &str) -> Option<&'s FileSnapshot>
-    ensures { option_copied result ≡ mapped_at shadows.now path.now }
-{
-    for shadow in shadows {
-        if path == shadow.path.as_str() {
-            return Some(&shadow.answer);
+        match find(&self.by_path, path) {
+            Some(answer) => Some(answer),
+            None => find(&self.told, path),
         }
     }
-    None
 }
 
-/// Whether both lists map the same at a path.
-fn agree_at(first: &[Shadow], second: &[Shadow], path: &str) -> bool
-    ensures { result ≡ agree_at first.now second.now path.now }
+/// Stamps paths as dropped.
+fn drop_paths(
+    alloc: Global,
+    drops: &mut Vec<Entry<Stamp>>,
+    paths: &[ImmutPath],
+    stamp: Stamp,
+) -> Result<(), OutOfMemory>
+    ensures { OnOk result (pairs drops.new.items ≡ put_all (pairs drops.old.items) (stamped stamp (map path_text paths.now))) }
 {
-    match (mapped_at(first, path), mapped_at(second, path)) {
-        (None, None) => true,
-        (Some(x), Some(y)) => x.same_as(y),
-        _ => false,
+    for path in paths {
+        put(drops, String::from_str(alloc, path.as_str())?, stamp)?;
     }
+    Ok(())
+}
+
+/// Takes away what is told of paths.
+fn remove_paths(told: &mut Vec<Entry<FileSnapshot>>, paths: &[ImmutPath])
+    ensures { pairs told.new.items ≡ without_all (pairs told.old.items) (map path_text paths.now) }
+{
+    for path in paths {
+        remove(told, path.as_str());
+    }
+}
+
+/// Tells files, of which the last of a path stands.
+fn put_files(
+    alloc: Global,
+    told: &mut Vec<Entry<FileSnapshot>>,
+    files: &[(ImmutPath, FileSnapshot)],
+) -> Result<(), OutOfMemory>
+    ensures { OnOk result (pairs told.new.items ≡ put_all (pairs told.old.items) (map file_of files.now)) }
+{
+    for (path, answer) in files {
+        let path = String::from_str(alloc, path.as_str())?;
+        put(told, path, answer.share(alloc)?)?;
+    }
+    Ok(())
 }

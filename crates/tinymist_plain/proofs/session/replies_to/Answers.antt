@@ -14,8 +14,8 @@ loop-command-preserved g c = record {
       let p = c.loop-command.invariant.pending told is fixed in
       let disk = c.loop-command.invariant.left told is fixed in
       rw c.in_ok-extend_from_slice.ensures.items
-      (next told (map command_of c.args.commands.now) c.args.commands.now c.loop-command.command-index c.command-item.result (omega arith) c.command-item.is c.loop-command.replies.items c.as_bytes.result.now c.loop-command.state c.step.new.self p
-      (c.as_bytes.ensures.value ∙ c.in_ok-line.ensures ∙ ap reply_line (c.in_ok-reply.ensures.reply told p.state disk p.kept))
+      (next told (map command_of c.args.commands.now) c.args.commands.now c.loop-command.command-index c.command-item.result (omega arith) c.command-item.is c.loop-command.replies.items c.deref.result.now c.loop-command.state c.step.new.self p
+      (c.deref.ensures.value ∙ c.in_ok-line.ensures ∙ ap reply_line (c.in_ok-reply.ensures.reply told p.state disk p.kept))
       (c.in_ok-reply.ensures.state told p.state disk p.kept));
   revision = omega (arith, c.in_ok-reply.ensures.revision);
   space = omega (arith, c.in_ok-reply.ensures.space);

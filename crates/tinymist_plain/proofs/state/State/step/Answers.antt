@@ -5,7 +5,7 @@ use Rattle.tinymist_plain.proofs.state.State.step.Goals as goal
 
 pub returns-in-Read-clause-reply : goal.returns-in-Read-clause-reply
 returns-in-Read-clause-reply g c = λ told s is kept.
-    rw (c.in-Read.is, ← c.as_str-in-Read.ensures) (c.read_view.ensures.reply told s is kept)
+    rw (c.in-Read.is, ← c.as_str.ensures) (c.read_view.ensures.reply told s is kept)
 
 pub returns-in-Read-clause-state : goal.returns-in-Read-clause-state
 returns-in-Read-clause-state g c = λ told s is kept.

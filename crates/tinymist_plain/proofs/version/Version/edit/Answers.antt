@@ -1,0 +1,4 @@
+use Rattle.tinymist_plain.proofs.version.Version.edit.Goals as goal
+
+pub returns-in-MapPath-clause-layers : goal.returns-in-MapPath-clause-layers
+returns-in-MapPath-clause-layers c = λ l is. rw (c.in-MapPath.is, ← c.as_str.ensures) (c.map_path.ensures.layers c.args.stamp l is)
