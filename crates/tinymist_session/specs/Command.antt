@@ -6,6 +6,7 @@ use Rattle.ty_model.specs.Batch.{Item}
 -- an id as it is written in a line
 pub data IdWord : Type 0 where
   PathWord : (path : List ℕ) → IdWord
+  TagWord : (tag : ℕ) → IdWord
 
 -- a content as it is written in a line: the bytes of a file, a missing file, or another refusal
 pub data ContentWord : Type 0 where
@@ -19,3 +20,6 @@ pub data Command : Type 0 where
   Snapshot : Command
   Read : (view : ℕ) (id : IdWord) → Command
   Paths : (target : ℕ) → Command
+  MapId : (target : ℕ) (id : IdWord) (content : ContentWord) → Command
+  UnmapId : (target : ℕ) (id : IdWord) → Command
+  Rootless : (vpath : List ℕ) → Command

@@ -7,8 +7,8 @@ use Rattle.std.specs.Str.{is_utf8, bytes_eq}
 use Rattle.hex.specs.Hex.{decode_of}
 use Rattle.ty_model.specs.Values.{Answer, Content, Refused, NotFound, AccessDenied, IsDirectory, NotSource, InvalidUtf8, Other}
 use Rattle.ty_model.specs.Batch.{MapPath, UnmapPath, Clear, ChangeSet}
-use Rattle.ty_model.specs.Paths.{parts_at, is_absolute, clean}
-use Rattle.tinymist_session.specs.Command.{IdWord, PathWord, ContentWord, BytesWord, MissingWord, RefusedWord, Command, Edit, Snapshot, Read, Paths}
+use Rattle.ty_model.specs.Paths.{parts_at, is_absolute, clean, virtual_path}
+use Rattle.tinymist_session.specs.Command.{IdWord, PathWord, TagWord, ContentWord, BytesWord, MissingWord, RefusedWord, Command, Edit, Snapshot, Read, Paths, MapId, UnmapId, Rootless}
 
 -- ---- words
 
@@ -26,14 +26,15 @@ number_of [] = None
 number_of (d ∷ []) = decimal_from 0 (d ∷ [])
 number_of (d ∷ e ∷ ds) = if d == 48 then None else option_and_then fits_64 (decimal_from 0 (d ∷ e ∷ ds))
 
--- an absolute path that is its cleaned form
-abbrev pub path_of : List ℕ → Option (List ℕ)
-path_of word = if is_absolute word && bytes_eq word (clean word) then Some word else None
-
 -- what stands after a sign
 abbrev pub after_sign : ℕ → List ℕ → Option (List ℕ)
 after_sign sign [] = None
 after_sign sign (b ∷ rest) = if b == sign then Some rest else None
+
+-- an absolute path that is its cleaned form
+abbrev pub path_of : List ℕ → Option (List ℕ)
+path_of word = if is_absolute word && bytes_eq word (clean word) then Some word else None
+
 
 -- hexadecimal digits of either case, two for each byte
 abbrev pub bytes_of : List ℕ → Option ContentWord
@@ -56,9 +57,13 @@ answer_at path (BytesWord bytes) = Content bytes
 answer_at path MissingWord = Refused (NotFound path)
 answer_at path (RefusedWord refusal) = Refused refusal
 
--- an id: a path
+-- an id: # and a tag, or a path
 abbrev pub id_of : List ℕ → Option IdWord
-id_of word = option_map PathWord (path_of word)
+id_of word = option_or (option_map TagWord (option_and_then number_of (after_sign 35 word))) (option_map PathWord (path_of word))
+
+-- a virtual path, as it is written: an absolute path that is its cleaned form
+abbrev pub vpath_of : List ℕ → Option (List ℕ)
+vpath_of word = option_and_then (λ path. result_ok (virtual_path path)) (path_of word)
 
 -- ---- a change set: words of removed paths, and words of paths each with its content
 
@@ -113,6 +118,14 @@ abbrev pub unmap_of : Option ℕ → Option (List ℕ) → Option Command
 unmap_of (Some target) (Some path) = Some (Edit target (UnmapPath path))
 unmap_of target path = None
 
+abbrev pub map_id_of : Option ℕ → Option IdWord → Option ContentWord → Option Command
+map_id_of (Some target) (Some id) (Some content) = Some (MapId target id content)
+map_id_of target id content = None
+
+abbrev pub unmap_id_of : Option ℕ → Option IdWord → Option Command
+unmap_id_of (Some target) (Some id) = Some (UnmapId target id)
+unmap_id_of target id = None
+
 abbrev pub read_of : Option ℕ → Option IdWord → Option Command
 read_of (Some view) (Some id) = Some (Read view id)
 read_of view id = None
@@ -159,6 +172,18 @@ snapshot_sentence fields = None
 abbrev pub read_sentence : List (List ℕ) → Option Command
 read_sentence fields = option_and_then (λ f. read_of (number_of f.0) (id_of f.1)) (two_of fields)
 
+-- map-id TARGET ID CONTENT
+abbrev pub map_id_sentence : List (List ℕ) → Option Command
+map_id_sentence fields = option_and_then (λ f. map_id_of (number_of f.0) (id_of f.1) (content_of f.2)) (three_of fields)
+
+-- unmap-id TARGET ID
+abbrev pub unmap_id_sentence : List (List ℕ) → Option Command
+unmap_id_sentence fields = option_and_then (λ f. unmap_id_of (number_of f.0) (id_of f.1)) (two_of fields)
+
+-- rootless VPATH
+abbrev pub rootless_sentence : List (List ℕ) → Option Command
+rootless_sentence fields = option_map Rootless (option_and_then vpath_of (one_of fields))
+
 -- the sentence that the first field names
 abbrev pub sentence_of : List (List ℕ) → Option Command
 sentence_of [] = None
@@ -170,6 +195,9 @@ sentence_of (word ∷ fields) =
     else if bytes_eq word (codes "clear") then clear_sentence fields
     else if bytes_eq word (codes "notify") then notify_sentence fields
     else if bytes_eq word (codes "paths") then paths_sentence fields
+    else if bytes_eq word (codes "map-id") then map_id_sentence fields
+    else if bytes_eq word (codes "unmap-id") then unmap_id_sentence fields
+    else if bytes_eq word (codes "rootless") then rootless_sentence fields
     else None
 
 -- ---- lines

@@ -10,6 +10,7 @@ pub data Reply : Type 0 where
   Contents : (bytes : List ℕ) → Reply
   Fails : (refusal : Refusal) → Reply
   PathList : (paths : List (List ℕ)) → Reply
+  IdTag : (tag : ℕ) → Reply
   BadView : Reply
   BadId : Reply
 
@@ -35,6 +36,7 @@ fields_of (ViewNumber number) = codes "view" ∷ decimal number ∷ []
 fields_of (Contents bytes) = codes "bytes" ∷ encode_lower bytes ∷ []
 fields_of (Fails refusal) = codes "fail" ∷ fail_word refusal ∷ []
 fields_of (PathList paths) = codes "paths" ∷ paths
+fields_of (IdTag tag) = codes "id" ∷ (codes "#" ++ decimal tag) ∷ []
 fields_of BadView = codes "err" ∷ codes "view" ∷ []
 fields_of BadId = codes "err" ∷ codes "id" ∷ []
 

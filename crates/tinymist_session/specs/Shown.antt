@@ -8,8 +8,8 @@ use Rattle.ty_model.specs.Version.{Version}
 use Rattle.ty_model.specs.LookUp.{look}
 use Rattle.ty_model.specs.Held.{Kept, version_of}
 use Rattle.ty_model.specs.Space.{Space}
-use Rattle.ty_model.specs.Counters.{Counters}
 use Rattle.tinymist_vfs.specs.declared.resolver.MockRootResolver.{MockRootResolver}
+use Rattle.tinymist_session.specs.declared.tagged.TaggedIds.{TaggedIds}
 use Rattle.tinymist_session.specs.Machine.{State}
 use Rattle.tinymist_session.specs.Reply.{Reply, BadView, BadId, reply_to}
 
@@ -32,11 +32,17 @@ highest (s ∷ ss) = max s.1.revision (highest ss)
 abbrev pub top_revision : Kept MockRootResolver → List (Kept MockRootResolver) → ℕ
 top_revision live views = highest (map shown (live ∷ views))
 
+-- the greater of the next numbers of a space and of an id
+abbrev pub next_number : TaggedIds → ℕ
+next_number tags = max tags.counters.next_space tags.counters.next_id
+
 -- the code shows these parts of the state
-pub record IsShown (live : Kept MockRootResolver) (views : List (Kept MockRootResolver)) (tags : Counters) (s : State) : Type 0 where
+pub record IsShown (live : Kept MockRootResolver) (views : List (Kept MockRootResolver)) (tags : TaggedIds) (s : State) : Type 0 where
   pub live_is : shown live ≡ space_shown s.live
   pub views_are : map shown views ≡ map space_shown s.views
-  pub next : tags.next_space ≡ s.next_space
+  pub next : tags.counters.next_space ≡ s.next_space
+  pub next_tag : tags.counters.next_id ≡ s.next_tag
+  pub tagged : tags.ids.items ≡ s.tagged
 
 abbrev pub kept_at : List (Kept MockRootResolver) → ℕ → Option (Kept MockRootResolver)
 kept_at views k = if k == 0 then None else slice_get views (k - 1)
