@@ -48,19 +48,30 @@ def triples(files, count=5000):
     return maps(files, files, 8) + "".join(lines).encode()
 
 
-def run(data, words=("session", "--max-lines", "4000000", "--max-line", "200000000")):
-    """The wall, user and system time in seconds, the peak memory in KiB, and the bytes written."""
-    with tempfile.TemporaryFile() as source, tempfile.TemporaryFile() as sink:
-        source.write(data)
-        source.seek(0)
+WORDS = ("session", "--max-lines", "4000000", "--max-line", "200000000")
+
+
+def measure(path):
+    """Runs the program on a file, and prints the wall, user and system time in seconds, the peak memory in KiB, and the
+    bytes written. It is a process of its own, since a child's peak is at least that of the process that started it."""
+    with open(path, "rb") as source, tempfile.TemporaryFile() as sink:
         begin = time.perf_counter()
-        child = subprocess.Popen([PROGRAM, *words], stdin=source, stdout=sink)
+        child = subprocess.Popen([PROGRAM, *WORDS], stdin=source, stdout=sink)
         _, status, usage = os.wait4(child.pid, 0)
         wall = time.perf_counter() - begin
         child.returncode = os.waitstatus_to_exitcode(status)
         if child.returncode != 0:
             sys.exit("the program ended with status %d" % child.returncode)
-        return wall, usage.ru_utime, usage.ru_stime, usage.ru_maxrss, os.fstat(sink.fileno()).st_size
+        print(wall, usage.ru_utime, usage.ru_stime, usage.ru_maxrss, os.fstat(sink.fileno()).st_size)
+
+
+def run(data):
+    """What `measure` prints of this input, as numbers."""
+    with tempfile.NamedTemporaryFile() as source:
+        source.write(data)
+        source.flush()
+        told = subprocess.run([sys.executable, __file__, source.name], stdout=subprocess.PIPE, check=True).stdout
+    return tuple(float(word) for word in told.split())
 
 
 def row(name, data):
@@ -89,4 +100,7 @@ def main():
 
 
 if __name__ == "__main__":
-    main()
+    if len(sys.argv) == 2:
+        measure(sys.argv[1])
+    else:
+        main()
