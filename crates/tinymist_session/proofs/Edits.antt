@@ -7,15 +7,16 @@ use Rattle.std.proofs.lemmas.Bool.Decides.{eqb_tells}
 use Rattle.std.proofs.lemmas.List.{map-set, map-append}
 use Rattle.std.proofs.lemmas.Option.{slice_get-map, slice_get_past}
 use Rattle.ty_model.specs.Batch.{Item, commit, rises}
-use Rattle.ty_model.specs.Counters.{Counters}
+use Rattle.tinymist_session.specs.declared.tagged.TaggedIds.{TaggedIds}
 use Rattle.ty_model.specs.Held.{Kept}
 use Rattle.ty_model.specs.Places.{Resolver}
 use Rattle.ty_model.specs.Space.{Space, after_commit}
 use Rattle.ty_model.specs.Standing.{Held, version_with}
+use Rattle.ty_model.specs.Values.{Id}
 use Rattle.ty_model.specs.Version.{Version}
 use Rattle.tinymist_vfs.specs.Commits.{committed}
 use Rattle.tinymist_vfs.specs.declared.resolver.MockRootResolver.{MockRootResolver}
-use Rattle.tinymist_session.specs.Machine.{State, space_at, view_at, with_space, edit_in, edit_step, paths_reply}
+use Rattle.tinymist_session.specs.Machine.{State, space_at, view_at, with_space, edit_in, edit_step, id_edit_in, paths_reply}
 use Rattle.tinymist_session.specs.Reply.{Reply, AtRevision, PathList, BadView}
 use Rattle.tinymist_session.specs.Shown.{IsShown, shown, space_shown, known, highest, top_revision, kept_at, target_kept}
 use Rattle.tinymist_session.proofs.Reading.{shown_at, shown_at-kept, shown_at-spaces}
@@ -53,7 +54,7 @@ none_of : (o : Option Space) → option_map space_shown o ≡ None → o ≡ Non
 none_of None e = refl
 none_of (Some s) e = absurd (cc)
 
-module _ (live : Kept MockRootResolver) (views : List (Kept MockRootResolver)) (tags : Counters) (s : State) (is : IsShown live views tags s) where
+module _ (live : Kept MockRootResolver) (views : List (Kept MockRootResolver)) (tags : TaggedIds) (s : State) (is : IsShown live views tags s) where
   -- ---- edits
 
   module _ (item : Item) where
@@ -61,7 +62,7 @@ module _ (live : Kept MockRootResolver) (views : List (Kept MockRootResolver)) (
     live_reply = ap (λ (p : ℕ × Version). AtRevision p.1.revision) (commit_shown live s.live (item ∷ []) is.live_is)
 
     pub live_shows : IsShown (committed live (item ∷ [])) views tags (edit_step s 0 item).state
-    live_shows = record { live_is = commit_shown live s.live (item ∷ []) is.live_is; views_are = is.views_are; next = is.next }
+    live_shows = record { live_is = commit_shown live s.live (item ∷ []) is.live_is; views_are = is.views_are; next = is.next; next_tag = is.next_tag; tagged = is.tagged }
 
     module _ (target : ℕ) (other : target ≢ 0) where
       view_is : (o : Option Space) → slice_get s.views (target - 1) ≡ o → space_at s target ≡ o
@@ -83,6 +84,8 @@ module _ (live : Kept MockRootResolver) (views : List (Kept MockRootResolver)) (
               ∙ ap (slice_set (map space_shown s.views) (target - 1)) same
               ∙ sym (map-set space_shown s.views (target - 1) space);
           next = is.next;
+          next_tag = is.next_tag;
+          tagged = is.tagged;
         })
 
         pub view_shows : IsShown live (slice_set views (target - 1) (committed view (item ∷ []))) tags (edit_step s target item).state
@@ -132,6 +135,14 @@ module _ (live : Kept MockRootResolver) (views : List (Kept MockRootResolver)) (
   pub no_paths : (target : ℕ) → None ≡ target_kept live views target → BadView ≡ paths_reply (space_at s target)
   unfolding paths_kept
   no_paths target e = paths_at target None e
+
+-- ---- an edit by id, where the target is there and the word names one
+
+pub named_step : (s : State) (target : ℕ) (item : Id → Item) (id : Id) (word : Option Id) (found : Space) → space_at s target ≡ Some found → word ≡ Some id → id_edit_in s target item (space_at s target) word ≡ edit_step s target (item id)
+named_step s target item id word found there is_id =
+    ap (λ (o : Option Space). id_edit_in s target item o word) there
+    ∙ ap (id_edit_in s target item (Some found)) is_id
+    ∙ ap (edit_in s target (item id)) (sym there)
 
 -- ---- the greatest revision
 

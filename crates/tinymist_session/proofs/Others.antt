@@ -4,10 +4,12 @@ use Rattle.std.proofs.lemmas.Bool.{eqb-true, eqb-false}
 use Rattle.std.specs.Prelude.{slice_get, slice_set}
 use Rattle.ty_model.specs.Values.{Id}
 use Rattle.ty_model.specs.Disk.{Told}
+use Rattle.ty_model.specs.Batch as batch
 use Rattle.ty_model.specs.Batch.{Item}
+use Rattle.tinymist_session.specs.Grammar.{answer_at}
 use Rattle.ty_model.specs.Space.{Space, after_commit, snapshot_of}
-use Rattle.tinymist_session.specs.Command.{Command, Edit, Snapshot, Read, Paths, IdWord}
-use Rattle.tinymist_session.specs.Machine.{State, space_at, with_space, with_asked, edit_in, read_in, read_step, id_for, step, target_of}
+use Rattle.tinymist_session.specs.Command.{Command, Edit, Snapshot, Read, Paths, MapId, UnmapId, Rootless, IdWord}
+use Rattle.tinymist_session.specs.Machine.{State, space_at, with_space, with_asked, edit_in, id_edit_in, read_in, read_step, id_for, step, target_of}
 
 pub slice_get-set_other : {A : Type 0} → (xs : List A) (i j : ℕ) (y : A) → i ≢ j → slice_get (slice_set xs i y) j ≡ slice_get xs j
 slice_get-set_other [] i j y h = refl
@@ -61,7 +63,7 @@ module _ (s : State) (space : Space) where
 
   view_others : (disk : Told) (view k : ℕ) (word : IdWord) (o : Option Space) → view ≢ k → (view == 0) ≡ false → space_at s k ≡ Some space → space_at (read_step s disk view word o).state k ≡ Some space
   view_others disk view k word None h nz e = e
-  view_others disk view k word (Some read) h nz e = asked_others disk view k read (id_for word) h nz e
+  view_others disk view k word (Some read) h nz e = asked_others disk view k read (id_for s.tagged word) h nz e
 
   read_by : (b : Bool) (disk : Told) (view k : ℕ) (word : IdWord) → (view == 0) ≡ b → view ≢ k → space_at s k ≡ Some space → space_at (read_step s disk view word (cond b None (slice_get s.views (view - 1)))).state k ≡ Some space
   read_by true disk view k word is h e = e
@@ -76,9 +78,17 @@ module _ (s : State) (space : Space) where
   unfolding at_by
   snapshot_others disk k e = pushed_by (k == 0) disk k (snapshot_of s.next_space s.live) e
 
+  named_others : (target k : ℕ) (item : Id → Item) (o : Option Space) (id : Option Id) → target ≢ k → space_at s k ≡ Some space → space_at (id_edit_in s target item o id).state k ≡ Some space
+  named_others target k item None id h e = e
+  named_others target k item (Some found) None h e = e
+  named_others target k item (Some found) (Some id) h e = edit_others target k (item id) (Some found) h e
+
   -- each space but the target of the command is as before, and a view that is there stays
   pub others : (disk : Told) (command : Command) (k : ℕ) → target_of command ≢ Some k → space_at s k ≡ Some space → space_at (step s disk command).state k ≡ Some space
   others disk (Edit target item) k h e = edit_others target k item (space_at s target) (λ same. h (ap Some same)) e
   others disk Snapshot k h e = snapshot_others disk k e
   others disk (Read view word) k h e = read_by (view == 0) disk view k word refl (λ same. h (ap Some same)) e
   others disk (Paths target) k h e = e
+  others disk (MapId target word content) k h e = named_others target k (λ id. batch.MapId id (answer_at id.vpath content)) (space_at s target) (id_for s.tagged word) (λ same. h (ap Some same)) e
+  others disk (UnmapId target word) k h e = named_others target k batch.UnmapId (space_at s target) (id_for s.tagged word) (λ same. h (ap Some same)) e
+  others disk (Rootless vpath) k h e = e

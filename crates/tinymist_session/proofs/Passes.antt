@@ -4,7 +4,7 @@ use Rattle.std.specs.Prelude.{IsSome, IfErr}
 use Rattle.std.specs.Io.KnownBytes.{prepend_known, append_known, IsAtEnd}
 use Rattle.std.proofs.lemmas.List.{take-append-drop}
 use Rattle.ty_model.specs.Held.{Kept}
-use Rattle.ty_model.specs.Counters.{Counters}
+use Rattle.tinymist_session.specs.declared.tagged.TaggedIds.{TaggedIds}
 use Rattle.tinymist_vfs.specs.declared.resolver.MockRootResolver.{MockRootResolver}
 use Rattle.ty_model.specs.Disk.{Told}
 use Rattle.tinymist_session.specs.Command.{Command}

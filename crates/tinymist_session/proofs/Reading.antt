@@ -9,14 +9,13 @@ use Rattle.ty_model.specs.Values.{Id}
 use Rattle.ty_model.specs.Version.{Version, same_id}
 use Rattle.ty_model.specs.LookUp.{look}
 use Rattle.ty_model.specs.Held.{Kept}
-use Rattle.ty_model.specs.Counters.{Counters}
-use Rattle.ty_model.specs.Places.{id_by_parent}
+use Rattle.tinymist_session.specs.declared.tagged.TaggedIds.{TaggedIds}
 use Rattle.ty_model.specs.Disk.{Told}
 use Rattle.ty_model.specs.Space.{Space}
 use Rattle.tinymist_vfs.specs.declared.resolver.MockRootResolver.{MockRootResolver}
-use Rattle.tinymist_session.specs.Command.{PathWord}
+use Rattle.tinymist_session.specs.Command.{IdWord}
 use Rattle.tinymist_session.specs.Reply.{Reply, BadView, BadId, reply_to}
-use Rattle.tinymist_session.specs.Machine.{State, view_at, with_asked, read_step, read_in}
+use Rattle.tinymist_session.specs.Machine.{State, view_at, id_for, with_asked, read_step, read_in}
 use Rattle.tinymist_session.specs.Shown.{IsShown, shown, space_shown, kept_at, read_reply}
 
 -- asked ids are no part of what is shown
@@ -47,22 +46,22 @@ reply_by None told id = BadView
 reply_by (Some view) told None = BadId
 reply_by (Some view) told (Some id) = reply_to (look view.1 told id)
 
-module _ (s : State) (told : Told) (k : ℕ) (path : List ℕ) where
+module _ (s : State) (told : Told) (k : ℕ) (word : IdWord) where
   by_shown : (view : Option (Kept MockRootResolver)) (id : Option Id) → read_reply view told id ≡ reply_by (option_map shown view) told id
   by_shown None id = refl
   by_shown (Some view) None = refl
   by_shown (Some view) (Some id) = refl
 
-  by_space : (view : Option Space) (id : Option Id) → id ≡ id_by_parent path → reply_by (option_map space_shown view) told id ≡ (read_step s told k (PathWord path) view).reply
+  by_space : (view : Option Space) (id : Option Id) → id ≡ id_for s.tagged word → reply_by (option_map space_shown view) told id ≡ (read_step s told k word view).reply
   by_space None id e = refl
   by_space (Some view) None e = rw (← e) refl
   by_space (Some view) (Some id) e = rw (← e) refl
 
-  pub read_replies : (views : List (Kept MockRootResolver)) → map shown views ≡ map space_shown s.views → read_reply (kept_at views k) told (id_by_parent path) ≡ (read_step s told k (PathWord path) (view_at s.views k)).reply
+  pub read_replies : (views : List (Kept MockRootResolver)) → map shown views ≡ map space_shown s.views → read_reply (kept_at views k) told (id_for s.tagged word) ≡ (read_step s told k word (view_at s.views k)).reply
   read_replies views e =
-      by_shown (kept_at views k) (id_by_parent path)
-      ∙ ap (λ v. reply_by v told (id_by_parent path)) (shown_at-kept views k ∙ ap (λ vs. shown_at vs k) e ∙ shown_at-spaces s.views k)
-      ∙ by_space (view_at s.views k) (id_by_parent path) refl
+      by_shown (kept_at views k) (id_for s.tagged word)
+      ∙ ap (λ v. reply_by v told (id_for s.tagged word)) (shown_at-kept views k ∙ ap (λ vs. shown_at vs k) e ∙ shown_at-spaces s.views k)
+      ∙ by_space (view_at s.views k) (id_for s.tagged word) refl
 
   -- ---- the state
 
@@ -70,23 +69,25 @@ module _ (s : State) (told : Told) (k : ℕ) (path : List ℕ) where
   views_in view None e = refl
   views_in view (Some id) e = views_same s.views (k - 1) view id e
 
-  same_rest : (view : Space) (id : Option Id) → ((read_in s told k view id).state.live ≡ s.live) × ((read_in s told k view id).state.next_space ≡ s.next_space)
-  same_rest view None = (refl, refl)
-  same_rest view (Some id) = (refl, refl)
+  same_rest : (view : Space) (id : Option Id) → ((read_in s told k view id).state.live ≡ s.live) × ((read_in s told k view id).state.next_space ≡ s.next_space) × ((read_in s told k view id).state.next_tag ≡ s.next_tag) × ((read_in s told k view id).state.tagged ≡ s.tagged)
+  same_rest view None = (refl, refl, refl, refl)
+  same_rest view (Some id) = (refl, refl, refl, refl)
 
   got : (b : Bool) (view : Space) → cond b None (slice_get s.views (k - 1)) ≡ Some view → slice_get s.views (k - 1) ≡ Some view
   got true view e = cc
   got false view e = e
 
-  shown_by : (live : Kept MockRootResolver) (views : List (Kept MockRootResolver)) (tags : Counters) → IsShown live views tags s → (view : Option Space) → view_at s.views k ≡ view → IsShown live views tags (read_step s told k (PathWord path) view).state
+  shown_by : (live : Kept MockRootResolver) (views : List (Kept MockRootResolver)) (tags : TaggedIds) → IsShown live views tags s → (view : Option Space) → view_at s.views k ≡ view → IsShown live views tags (read_step s told k word view).state
   shown_by live views tags is None e = is
   shown_by live views tags is (Some view) e =
-      let rest = same_rest view (id_by_parent path) in
+      let rest = same_rest view (id_for s.tagged word) in
       record {
         live_is = is.live_is ∙ ap space_shown (sym rest.0);
-        views_are = is.views_are ∙ sym (views_in view (id_by_parent path) (got (k == 0) view e));
+        views_are = is.views_are ∙ sym (views_in view (id_for s.tagged word) (got (k == 0) view e));
         next = is.next ∙ sym rest.1;
+        next_tag = is.next_tag ∙ sym rest.2;
+        tagged = is.tagged ∙ sym rest.3;
       }
 
-  pub read_shows : (live : Kept MockRootResolver) (views : List (Kept MockRootResolver)) (tags : Counters) → IsShown live views tags s → IsShown live views tags (read_step s told k (PathWord path) (view_at s.views k)).state
+  pub read_shows : (live : Kept MockRootResolver) (views : List (Kept MockRootResolver)) (tags : TaggedIds) → IsShown live views tags s → IsShown live views tags (read_step s told k word (view_at s.views k)).state
   read_shows live views tags is = shown_by live views tags is (view_at s.views k) refl

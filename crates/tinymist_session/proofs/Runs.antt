@@ -2,7 +2,7 @@
 use Rattle.std.proofs.Common.{◌≡◌, ℕ, ◌+◌, List, [], ◌∷◌, ◌++◌, refl, sym, ap, ◌∙◌, append_assoc, Bool, Option, Some, Result, Err}
 use Rattle.std.specs.Io.KnownBytes.{append_known}
 use Rattle.ty_model.specs.Held.{Kept}
-use Rattle.ty_model.specs.Counters.{Counters}
+use Rattle.tinymist_session.specs.declared.tagged.TaggedIds.{TaggedIds}
 use Rattle.ty_model.specs.Disk.{Told}
 use Rattle.tinymist_vfs.specs.declared.resolver.MockRootResolver.{MockRootResolver}
 use Rattle.tinymist_session.specs.Command.{Command}
@@ -19,10 +19,10 @@ use Rattle.tinymist_session.proofs.Passes.{append-nil_known}
 use Rattle.tinymist_session.proofs.Fronts.{front_start, front_push, commands_push, replies_push, state_push}
 
 module _ (limits : session.Limits) (told : Told) (input : List ℕ) (n : ℕ) where
-  pub at_start : (left : Option (List ℕ)) (disk : Option Told) (old : Option (List ℕ)) (live : Kept MockRootResolver) (views : List (Kept MockRootResolver)) (tags : Counters) → left ≡ Some input → disk ≡ Some told → IsShown live views tags opening → Pending limits told input 0 left disk old old live views tags
+  pub at_start : (left : Option (List ℕ)) (disk : Option Told) (old : Option (List ℕ)) (live : Kept MockRootResolver) (views : List (Kept MockRootResolver)) (tags : TaggedIds) → left ≡ Some input → disk ≡ Some told → IsShown live views tags opening → Pending limits told input 0 left disk old old live views tags
   at_start left disk old live views tags l d shown = record { rest = input; state = opening; done = []; lines = []; front = front_start limits input; state_is = refl; done_is = refl; left_is = l; disk_is = d; shown = shown; taken = append-nil_known old; goes_on = refl }
 
-  pub goes_on : (left left' : Option (List ℕ)) (disk disk' : Option Told) (old mid new : Option (List ℕ)) (live live' : Kept MockRootResolver) (views views' : List (Kept MockRootResolver)) (tags tags' : Counters)
+  pub goes_on : (left left' : Option (List ℕ)) (disk disk' : Option Told) (old mid new : Option (List ℕ)) (live live' : Kept MockRootResolver) (views views' : List (Kept MockRootResolver)) (tags tags' : TaggedIds)
       → (p : Pending limits told input n left disk old mid live views tags) → disk' ≡ Some told → Passed limits told p.state n p.rest left' mid new live' views' tags' → Pending limits told input (n + 1) left' disk' old new live' views' tags'
   goes_on left left' disk disk' old mid new live live' views views' tags tags' p d q = record {
     rest = q.next;

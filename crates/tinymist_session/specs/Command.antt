@@ -3,9 +3,10 @@ use Rattle.std.specs.Prelude.{ℕ, List}
 use Rattle.ty_model.specs.Values.{Refusal}
 use Rattle.ty_model.specs.Batch.{Item}
 
--- an id as it is written in a line
+-- an id as it is written in a line: a path, or a tag
 pub data IdWord : Type 0 where
   PathWord : (path : List ℕ) → IdWord
+  TagWord : (tag : ℕ) → IdWord
 
 -- a content as it is written in a line: the bytes of a file, a missing file, or another refusal
 pub data ContentWord : Type 0 where
@@ -16,6 +17,14 @@ pub data ContentWord : Type 0 where
 -- what a line asks for. A target is 0 for the live state, and else the number of a view
 pub data Command : Type 0 where
   Edit : (target : ℕ) (item : Item) → Command
+  MapId : (target : ℕ) (id : IdWord) (content : ContentWord) → Command
+  UnmapId : (target : ℕ) (id : IdWord) → Command
+  Rootless : (vpath : List ℕ) → Command
   Snapshot : Command
   Read : (view : ℕ) (id : IdWord) → Command
+  Source : (view : ℕ) (id : IdWord) → Command
+  Line : (view : ℕ) (id : IdWord) (offset : ℕ) → Command
   Paths : (target : ℕ) → Command
+  Ids : (target : ℕ) → Command
+  Path : (target : ℕ) (id : IdWord) → Command
+  Clean : (target : ℕ) (revision : ℕ) (ids : List IdWord) → Command

@@ -7,8 +7,8 @@ use Rattle.std.specs.Str.{is_utf8, bytes_eq}
 use Rattle.hex.specs.Hex.{decode_of}
 use Rattle.ty_model.specs.Values.{Answer, Content, Refused, NotFound, AccessDenied, IsDirectory, NotSource, InvalidUtf8, Other}
 use Rattle.ty_model.specs.Batch.{MapPath, UnmapPath, Clear, ChangeSet}
-use Rattle.ty_model.specs.Paths.{parts_at, is_absolute, clean}
-use Rattle.tinymist_session.specs.Command.{IdWord, PathWord, ContentWord, BytesWord, MissingWord, RefusedWord, Command, Edit, Snapshot, Read, Paths}
+use Rattle.ty_model.specs.Paths.{parts_at, is_absolute, clean, virtual_path}
+use Rattle.tinymist_session.specs.Command.{IdWord, PathWord, TagWord, ContentWord, BytesWord, MissingWord, RefusedWord, Command, Edit, MapId, UnmapId, Rootless, Snapshot, Read, Source, Line, Paths, Ids, Path, Clean}
 
 -- ---- words
 
@@ -26,14 +26,14 @@ number_of [] = None
 number_of (d ∷ []) = decimal_from 0 (d ∷ [])
 number_of (d ∷ e ∷ ds) = if d == 48 then None else option_and_then fits_64 (decimal_from 0 (d ∷ e ∷ ds))
 
--- an absolute path that is its cleaned form
-abbrev pub path_of : List ℕ → Option (List ℕ)
-path_of word = if is_absolute word && bytes_eq word (clean word) then Some word else None
-
 -- what stands after a sign
 abbrev pub after_sign : ℕ → List ℕ → Option (List ℕ)
 after_sign sign [] = None
 after_sign sign (b ∷ rest) = if b == sign then Some rest else None
+
+-- an absolute path that is its cleaned form
+abbrev pub path_of : List ℕ → Option (List ℕ)
+path_of word = if is_absolute word && bytes_eq word (clean word) then Some word else None
 
 -- hexadecimal digits of either case, two for each byte
 abbrev pub bytes_of : List ℕ → Option ContentWord
@@ -56,9 +56,18 @@ answer_at path (BytesWord bytes) = Content bytes
 answer_at path MissingWord = Refused (NotFound path)
 answer_at path (RefusedWord refusal) = Refused refusal
 
--- an id: a path
+-- an id: # and a tag, or a path
 abbrev pub id_of : List ℕ → Option IdWord
-id_of word = option_map PathWord (path_of word)
+id_of word = option_or (option_map TagWord (option_and_then number_of (after_sign 35 word))) (option_map PathWord (path_of word))
+
+-- a virtual path, as it is written: an absolute path that is its cleaned form
+abbrev pub vpath_of : List ℕ → Option (List ℕ)
+vpath_of word = option_and_then (λ path. result_ok (virtual_path path)) (path_of word)
+
+-- the ids that all these words write
+abbrev pub ids_of : List (List ℕ) → Option (List IdWord)
+ids_of [] = Some []
+ids_of (word ∷ words) = option_and_then (λ id. option_map (λ ids. id ∷ ids) (ids_of words)) (id_of word)
 
 -- ---- a change set: words of removed paths, and words of paths each with its content
 
@@ -113,9 +122,22 @@ abbrev pub unmap_of : Option ℕ → Option (List ℕ) → Option Command
 unmap_of (Some target) (Some path) = Some (Edit target (UnmapPath path))
 unmap_of target path = None
 
-abbrev pub read_of : Option ℕ → Option IdWord → Option Command
-read_of (Some view) (Some id) = Some (Read view id)
-read_of view id = None
+abbrev pub map_id_of : Option ℕ → Option IdWord → Option ContentWord → Option Command
+map_id_of (Some target) (Some id) (Some content) = Some (MapId target id content)
+map_id_of target id content = None
+
+-- a command of a number and an id
+abbrev pub of_id : (ℕ → IdWord → Command) → Option ℕ → Option IdWord → Option Command
+of_id command (Some number) (Some id) = Some (command number id)
+of_id command number id = None
+
+abbrev pub line_sentence_of : Option ℕ → Option IdWord → Option ℕ → Option Command
+line_sentence_of (Some view) (Some id) (Some offset) = Some (Line view id offset)
+line_sentence_of view id offset = None
+
+abbrev pub clean_of : Option ℕ → Option ℕ → Option (List IdWord) → Option Command
+clean_of (Some target) (Some revision) (Some ids) = Some (Clean target revision ids)
+clean_of target revision ids = None
 
 -- the one, where there is one; both, where there are two; all three, where there are three
 abbrev pub one_of : List (List ℕ) → Option (List ℕ)
@@ -138,26 +160,39 @@ map_sentence fields = option_and_then (λ f. map_of (number_of f.0) (path_of f.1
 abbrev pub unmap_sentence : List (List ℕ) → Option Command
 unmap_sentence fields = option_and_then (λ f. unmap_of (number_of f.0) (path_of f.1)) (two_of fields)
 
--- clear TARGET
-abbrev pub clear_sentence : List (List ℕ) → Option Command
-clear_sentence fields = option_map (λ target. Edit target Clear) (option_and_then number_of (one_of fields))
-
 -- notify, and any of -PATH and +PATH CONTENT: one change set on the live state
 abbrev pub notify_sentence : List (List ℕ) → Option Command
 notify_sentence fields = option_map (λ c. Edit 0 (ChangeSet c.removes c.inserts)) (changes_of fields)
-
--- paths TARGET
-abbrev pub paths_sentence : List (List ℕ) → Option Command
-paths_sentence fields = option_map Paths (option_and_then number_of (one_of fields))
 
 -- snapshot
 abbrev pub snapshot_sentence : List (List ℕ) → Option Command
 snapshot_sentence [] = Some Snapshot
 snapshot_sentence fields = None
 
--- read VIEW ID
-abbrev pub read_sentence : List (List ℕ) → Option Command
-read_sentence fields = option_and_then (λ f. read_of (number_of f.0) (id_of f.1)) (two_of fields)
+-- map-id TARGET ID CONTENT
+abbrev pub map_id_sentence : List (List ℕ) → Option Command
+map_id_sentence fields = option_and_then (λ f. map_id_of (number_of f.0) (id_of f.1) (content_of f.2)) (three_of fields)
+
+-- read VIEW ID, and other words of a number and an id
+abbrev pub id_sentence : (ℕ → IdWord → Command) → List (List ℕ) → Option Command
+id_sentence command fields = option_and_then (λ f. of_id command (number_of f.0) (id_of f.1)) (two_of fields)
+
+-- line VIEW ID OFFSET
+abbrev pub line_sentence : List (List ℕ) → Option Command
+line_sentence fields = option_and_then (λ f. line_sentence_of (number_of f.0) (id_of f.1) (number_of f.2)) (three_of fields)
+
+-- paths TARGET, and other words of a target
+abbrev pub target_sentence : (ℕ → Command) → List (List ℕ) → Option Command
+target_sentence command fields = option_map command (option_and_then number_of (one_of fields))
+
+-- clean TARGET REVISION, and any number of ids
+abbrev pub clean_sentence : List (List ℕ) → Option Command
+clean_sentence (target ∷ revision ∷ ids) = clean_of (number_of target) (number_of revision) (ids_of ids)
+clean_sentence fields = None
+
+-- rootless VPATH
+abbrev pub rootless_sentence : List (List ℕ) → Option Command
+rootless_sentence fields = option_map Rootless (option_and_then vpath_of (one_of fields))
 
 -- the sentence that the first field names
 abbrev pub sentence_of : List (List ℕ) → Option Command
@@ -165,11 +200,19 @@ sentence_of [] = None
 sentence_of (word ∷ fields) =
     if bytes_eq word (codes "map") then map_sentence fields
     else if bytes_eq word (codes "snapshot") then snapshot_sentence fields
-    else if bytes_eq word (codes "read") then read_sentence fields
+    else if bytes_eq word (codes "read") then id_sentence Read fields
     else if bytes_eq word (codes "unmap") then unmap_sentence fields
-    else if bytes_eq word (codes "clear") then clear_sentence fields
+    else if bytes_eq word (codes "clear") then target_sentence (λ target. Edit target Clear) fields
     else if bytes_eq word (codes "notify") then notify_sentence fields
-    else if bytes_eq word (codes "paths") then paths_sentence fields
+    else if bytes_eq word (codes "paths") then target_sentence Paths fields
+    else if bytes_eq word (codes "map-id") then map_id_sentence fields
+    else if bytes_eq word (codes "unmap-id") then id_sentence UnmapId fields
+    else if bytes_eq word (codes "rootless") then rootless_sentence fields
+    else if bytes_eq word (codes "ids") then target_sentence Ids fields
+    else if bytes_eq word (codes "path") then id_sentence Path fields
+    else if bytes_eq word (codes "source") then id_sentence Source fields
+    else if bytes_eq word (codes "line") then line_sentence fields
+    else if bytes_eq word (codes "clean") then clean_sentence fields
     else None
 
 -- ---- lines

@@ -1,16 +1,21 @@
 -- The plain machine: its state, and a step for each command.
-use Rattle.std.specs.Prelude.{ℕ, ◌+◌, ◌-◌, ◌==◌, ◌&&◌, not, true, if◌then◌else◌, List, [], ◌∷◌, ◌++◌, length, slice_get, slice_set, Option, Some, None}
+use Rattle.std.specs.Prelude.{ℕ, ◌+◌, ◌-◌, ◌==◌, ◌&&◌, nat_le, not, Bool, true, if◌then◌else◌, List, [], ◌∷◌, ◌++◌, length, slice_get, slice_set, Option, Some, None}
 use Rattle.std.specs.List.{list_any}
 use Rattle.std.specs.FinMap as map
-use Rattle.ty_model.specs.Values.{Id}
-use Rattle.ty_model.specs.Places.{id_by_parent, detached_entry, memory_main_entry}
+use Rattle.std.specs.Option.{option_map, option_and_then}
+use Rattle.ty_model.specs.Values.{Id, Project, Answer, Content}
+use Rattle.ty_model.specs.Places.{id_by_parent, place_of, detached_entry, memory_main_entry}
 use Rattle.ty_model.specs.Disk.{Told}
 use Rattle.ty_model.specs.Version.{first_version, same_id}
+use Rattle.ty_model.specs.Batch as batch
 use Rattle.ty_model.specs.Batch.{Item}
 use Rattle.ty_model.specs.LookUp.{look}
+use Rattle.ty_model.specs.Standing.{are_clean}
 use Rattle.ty_model.specs.Space.{Space, after_commit, snapshot_of}
-use Rattle.tinymist_session.specs.Command.{Command, Edit, Snapshot, Read, Paths, IdWord, PathWord}
-use Rattle.tinymist_session.specs.Reply.{Reply, AtRevision, ViewNumber, PathList, BadView, BadId, reply_to}
+use Rattle.tinymist_vfs.specs.Reading.{source_of}
+use Rattle.tinymist_session.specs.Command.{Command, Edit, MapId, UnmapId, Rootless, Snapshot, Read, Source, Line, Paths, Ids, Path, Clean, IdWord, PathWord, TagWord}
+use Rattle.tinymist_session.specs.Grammar.{answer_at}
+use Rattle.tinymist_session.specs.Reply.{Reply, AtRevision, ViewNumber, PathList, IdList, IdTag, IsClean, BadView, BadId, BadRevision, reply_to, text_reply, line_reply, place_reply}
 
 -- the live space, the views with view 1 first, and what is drawn next
 pub record State : Type 0 where
@@ -35,9 +40,7 @@ opening = record {
   tagged = detached_entry ∷ memory_main_entry ∷ [];
 }
 
--- the id that a word names
-abbrev pub id_for : IdWord → Option Id
-id_for (PathWord path) = id_by_parent path
+-- ---- spaces and ids
 
 -- view k, where 0 is none
 abbrev pub view_at : List Space → ℕ → Option Space
@@ -51,24 +54,61 @@ space_at s target = if target == 0 then Some s.live else view_at s.views target
 abbrev pub with_space : State → ℕ → Space → State
 with_space s target space = if target == 0 then record s { live = space } else record s { views = slice_set s.views (target - 1) space }
 
--- the id is asked for, where the space is compiling and it wasn't before
-abbrev pub with_asked : Id → Space → Space
-with_asked id s = if s.compiling && not (list_any (same_id id) s.asked) then record s { asked = s.asked ++ id ∷ [] } else s
+-- the id of a tag, where 0 is none
+abbrev pub tagged_at : List Id → ℕ → Option Id
+tagged_at tagged tag = if tag == 0 then None else slice_get tagged (tag - 1)
+
+-- the id that a word names: the file of a path in the workspace of its parent, or the id of a tag
+abbrev pub id_for : List Id → IdWord → Option Id
+id_for tagged (PathWord path) = id_by_parent path
+id_for tagged (TagWord tag) = tagged_at tagged tag
+
+-- the ids that words name, where each names one
+abbrev pub ids_for : List Id → List IdWord → Option (List Id)
+ids_for tagged [] = Some []
+ids_for tagged (word ∷ words) = option_and_then (λ id. option_map (λ ids. id ∷ ids) (ids_for tagged words)) (id_for tagged word)
+
+-- a reply that changes nothing
+abbrev pub replied : State → Reply → Stepped
+replied s reply = record { state = s; reply = reply }
+
+-- a step on a space and what a line names in it: the space is looked for first, then the other
+abbrev pub on_named : {A : Type 0} → State → Option Space → Option A → (Space → A → Stepped) → Stepped
+on_named s None named f = replied s BadView
+on_named s (Some space) None f = replied s BadId
+on_named s (Some space) (Some named) f = f space named
+
+-- ---- edits
 
 -- an edit commits a batch of one item on its target, and leaves all other spaces as they are
+abbrev pub edited : State → ℕ → Item → Space → Stepped
+edited s target item space =
+    let new = after_commit space (item ∷ []) in
+    record { state = with_space s target new; reply = AtRevision new.now.revision }
+
 abbrev pub edit_in : State → ℕ → Item → Option Space → Stepped
-edit_in s target item None = record { state = s; reply = BadView }
-edit_in s target item (Some space) =
-    let edited = after_commit space (item ∷ []) in
-    record { state = with_space s target edited; reply = AtRevision edited.now.revision }
+edit_in s target item None = replied s BadView
+edit_in s target item (Some space) = edited s target item space
 
 abbrev pub edit_step : State → ℕ → Item → Stepped
 edit_step s target item = edit_in s target item (space_at s target)
 
--- the paths of the overlay of a target, ascending
-abbrev pub paths_reply : Option Space → Reply
-paths_reply None = BadView
-paths_reply (Some space) = PathList (map.keys space.now.layers.by_path)
+-- an edit of an id that a word names
+abbrev pub id_edit_step : State → ℕ → IdWord → (Id → Item) → Stepped
+id_edit_step s target word item = on_named s (space_at s target) (id_for s.tagged word) (λ space id. edited s target (item id) space)
+
+-- an id of no workspace
+abbrev pub rootless_id : List ℕ → ℕ → Id
+rootless_id vpath tag = record { root = Project; vpath = vpath; tag = tag }
+
+-- a new id under the next tag
+abbrev pub rootless_step : State → List ℕ → Stepped
+rootless_step s vpath = record {
+  state = record s { next_tag = s.next_tag + 1; tagged = s.tagged ++ rootless_id vpath s.next_tag ∷ [] };
+  reply = IdTag s.next_tag;
+}
+
+-- ---- snapshots and reads
 
 -- a snapshot copies the live space under a fresh number
 abbrev pub snapshot_step : State → Stepped
@@ -77,28 +117,86 @@ snapshot_step s = record {
   reply = ViewNumber (length s.views + 1);
 }
 
--- a read looks the id up in the last version of the view
-abbrev pub read_in : State → Told → ℕ → Space → Option Id → Stepped
-read_in s disk k view None = record { state = s; reply = BadId }
-read_in s disk k view (Some id) = record {
+-- the id is asked for, where the space is compiling and it wasn't before
+abbrev pub with_asked : Id → Space → Space
+with_asked id s = if s.compiling && not (list_any (same_id id) s.asked) then record s { asked = s.asked ++ id ∷ [] } else s
+
+-- a look-up of an id in the last version of a view, which is asked for
+abbrev pub looked_up : State → Told → ℕ → Space → Id → (Answer → Reply) → Stepped
+looked_up s disk k view id reply = record {
   state = record s { views = slice_set s.views (k - 1) (with_asked id view) };
-  reply = reply_to (look view.now disk id);
+  reply = reply (look view.now disk id);
 }
 
-abbrev pub read_step : State → Told → ℕ → IdWord → Option Space → Stepped
-read_step s disk k word None = record { state = s; reply = BadView }
-read_step s disk k word (Some view) = read_in s disk k view (id_for word)
+-- the source of an id: that of the detached entry is empty, and asks for nothing
+abbrev pub source_read : State → Told → ℕ → Space → Id → (Answer → Reply) → Stepped
+source_read s disk k view id reply =
+    if same_id id detached_entry then replied s (reply (Content []))
+    else looked_up s disk k view id (λ answer. reply (source_of answer))
+
+abbrev pub read_step : State → Told → ℕ → IdWord → Stepped
+read_step s disk k word = on_named s (view_at s.views k) (id_for s.tagged word) (λ view id. looked_up s disk k view id reply_to)
+
+-- a sentence that reads the source of an id, and makes a reply of it
+abbrev pub source_step : State → Told → ℕ → IdWord → (Answer → Reply) → Stepped
+source_step s disk k word reply = on_named s (view_at s.views k) (id_for s.tagged word) (λ view id. source_read s disk k view id reply)
+
+-- ---- questions that change nothing
+
+-- what is listed of a space, if there is one
+abbrev pub listed : (Space → Reply) → Option Space → Reply
+listed reply None = BadView
+listed reply (Some space) = reply space
+
+-- the paths of an overlay, ascending, and its ids
+abbrev pub path_list : Space → Reply
+path_list space = PathList (map.keys space.now.layers.by_path)
+
+abbrev pub id_list : Space → Reply
+id_list space = IdList (map.keys space.now.layers.by_id)
+
+-- the space had this revision
+abbrev pub has_revision : Space → ℕ → Bool
+has_revision space r = nat_le 2 r && nat_le r space.now.revision
+
+-- whether ids are clean since a revision, by the versions of the space
+abbrev pub clean_reply : Space → ℕ → List Id → Reply
+clean_reply space r ids = if has_revision space r then IsClean (are_clean (space.now ∷ space.past) r ids) else BadRevision
+
+abbrev pub path_step : State → ℕ → IdWord → Stepped
+path_step s target word = on_named s (space_at s target) (id_for s.tagged word) (λ space id. replied s (place_reply id (place_of space.now.resolver id)))
+
+abbrev pub clean_step : State → ℕ → ℕ → List IdWord → Stepped
+clean_step s target r words = on_named s (space_at s target) (ids_for s.tagged words) (λ space ids. replied s (clean_reply space r ids))
+
+-- ---- all commands
 
 -- a step of a state over a disk
 abbrev pub step : State → Told → Command → Stepped
 step s disk (Edit target item) = edit_step s target item
+step s disk (MapId target word content) = id_edit_step s target word (λ id. batch.MapId id (answer_at id.vpath content))
+step s disk (UnmapId target word) = id_edit_step s target word batch.UnmapId
+step s disk (Rootless vpath) = rootless_step s vpath
 step s disk Snapshot = snapshot_step s
-step s disk (Read k word) = read_step s disk k word (view_at s.views k)
-step s disk (Paths target) = record { state = s; reply = paths_reply (space_at s target) }
+step s disk (Read k word) = read_step s disk k word
+step s disk (Source k word) = source_step s disk k word text_reply
+step s disk (Line k word offset) = source_step s disk k word (line_reply offset)
+step s disk (Paths target) = replied s (listed path_list (space_at s target))
+step s disk (Ids target) = replied s (listed id_list (space_at s target))
+step s disk (Path target word) = path_step s target word
+step s disk (Clean target r words) = clean_step s target r words
 
 -- the space that a command may change, if any
 abbrev pub target_of : Command → Option ℕ
 target_of (Edit target item) = Some target
+target_of (MapId target word content) = Some target
+target_of (UnmapId target word) = Some target
+target_of (Rootless vpath) = None
 target_of Snapshot = None
 target_of (Read view word) = Some view
+target_of (Source view word) = Some view
+target_of (Line view word offset) = Some view
 target_of (Paths target) = None
+target_of (Ids target) = None
+target_of (Path target word) = None
+target_of (Clean target r words) = None

@@ -1,13 +1,16 @@
 -- Commands and replies of the code as those of the definitions.
-use Rattle.std.specs.Prelude.{◌≡◌, ℕ, ◌<◌, List, [], map, length, Option, Some, None}
+use Rattle.std.specs.Prelude.{◌≡◌, ℕ, ◌<◌, List, [], map, length, Option, Some, None, IsSome, Result, Ok, Err}
 use Rattle.std.specs.String.{string_bytes}
 use Rattle.std.specs.Borrow.{Bor}
 use Rattle.ty_model.specs.Batch as batch
+use Rattle.ty_model.specs.Values.{Id}
+use Rattle.ty_model.specs.Space.{Space}
 use Rattle.ty_model.specs.Paths.{parts_at}
 use Rattle.ty_path.specs.Shared.{path_text}
 use Rattle.ty_syntax.specs.Error.{refusal_of}
 use Rattle.tinymist_session.specs.Command as plain
 use Rattle.tinymist_session.specs.Grammar.{Changes, removing, telling, joined, changes_of}
+use Rattle.tinymist_session.specs.Machine.{State, Stepped, on_named, replied}
 use Rattle.tinymist_session.specs.Reply as plain_reply
 use Rattle.tinymist_session.specs.Words as words
 use Rattle.tinymist_session.specs.declared.limits.Options.{Options}
@@ -16,6 +19,8 @@ use Rattle.tinymist_session.specs.declared.content.ContentWord.{ContentWord}
 use Rattle.tinymist_session.specs.declared.content.ContentWord.TheVariants as content
 use Rattle.tinymist_session.specs.declared.command.Change.{Change}
 use Rattle.tinymist_session.specs.declared.command.Change.TheVariants.{Remove, Tell}
+use Rattle.tinymist_session.specs.declared.content.IdWord.{IdWord}
+use Rattle.tinymist_session.specs.declared.content.IdWord.TheVariants as word
 use Rattle.tinymist_session.specs.declared.edit.Edit.{Edit}
 use Rattle.tinymist_session.specs.declared.edit.Edit.TheVariants as edit
 use Rattle.tinymist_session.specs.declared.command.Command.{Command}
@@ -32,26 +37,49 @@ abbrev pub change_said : Change → Changes
 change_said (Remove path) = removing (string_bytes path.text)
 change_said (Tell path answer) = telling (string_bytes path.text) answer
 
+abbrev pub id_said : IdWord → plain.IdWord
+id_said (word.Path path) = plain.PathWord (string_bytes path.text)
+id_said (word.Tag tag) = plain.TagWord tag
+
 abbrev pub edit_said : Edit → batch.Item
 edit_said (edit.MapPath path answer) = batch.MapPath (string_bytes path.text) answer
 edit_said (edit.UnmapPath path) = batch.UnmapPath (string_bytes path.text)
 edit_said edit.Clear = batch.Clear
+edit_said (edit.MapId id answer) = batch.MapId id answer
+edit_said (edit.UnmapId id) = batch.UnmapId id
 edit_said (edit.Notify changes) = batch.ChangeSet (set_said changes.set).removes (set_said changes.set).inserts
 
 abbrev pub command_of : Command → plain.Command
 command_of (command.Edit target edit) = plain.Edit target (edit_said edit)
 command_of command.Snapshot = plain.Snapshot
-command_of (command.Read view path) = plain.Read view (plain.PathWord (string_bytes path.text))
+command_of (command.Read view id) = plain.Read view (id_said id)
+command_of (command.Source view id) = plain.Source view (id_said id)
+command_of (command.Line view id offset) = plain.Line view (id_said id) offset
 command_of (command.Paths target) = plain.Paths target
+command_of (command.Ids target) = plain.Ids target
+command_of (command.Path target id) = plain.Path target (id_said id)
+command_of (command.Clean target revision ids) = plain.Clean target revision (map id_said ids.items)
+command_of (command.MapId target id content) = plain.MapId target (id_said id) (content_said content)
+command_of (command.UnmapId target id) = plain.UnmapId target (id_said id)
+command_of (command.Rootless vpath) = plain.Rootless vpath
 
 abbrev pub reply_of : Reply → plain_reply.Reply
 reply_of (reply.AtRevision revision) = plain_reply.AtRevision revision
 reply_of (reply.ViewNumber number) = plain_reply.ViewNumber number
 reply_of (reply.Contents bytes) = plain_reply.Contents bytes
+reply_of (reply.Text text) = plain_reply.Text (string_bytes text)
+reply_of (reply.AtPlace line column unit) = plain_reply.AtPlace (record { line = line; column = column; unit = unit })
 reply_of (reply.Fails error) = plain_reply.Fails (refusal_of error)
 reply_of (reply.PathList paths) = plain_reply.PathList (map path_text paths.items)
+reply_of (reply.IdList ids) = plain_reply.IdList ids.items
+reply_of (reply.IdTag tag) = plain_reply.IdTag tag
+reply_of (reply.AtPath path) = plain_reply.AtPath (path_text path)
+reply_of (reply.RootlessAt vpath) = plain_reply.RootlessAt vpath
+reply_of (reply.IsClean clean) = plain_reply.IsClean clean
 reply_of reply.BadView = plain_reply.BadView
 reply_of reply.BadId = plain_reply.BadId
+reply_of reply.BadRevision = plain_reply.BadRevision
+reply_of reply.BadOffset = plain_reply.BadOffset
 
 abbrev pub options_said : Options → words.Options
 options_said o = record { max_line = o.max_line; max_lines = o.max_lines }
@@ -65,3 +93,8 @@ fields_of (Some text) = parts_at 9 text.now
 abbrev pub ReadsChange : List ℕ → Option (Change × Option (Bor (List ℕ))) → Type 0
 ReadsChange text None = changes_of (parts_at 9 text) ≡ None
 ReadsChange text (Some (change, rest)) = (changes_of (parts_at 9 text) ≡ joined (Some (change_said change)) (changes_of (fields_of rest))) × (length (fields_of rest) < length (parts_at 9 text))
+
+-- the space and what a line names in it, or what is replied where one of them is missing
+abbrev pub Names : {A : Type 0} → Option Space → Option A → Result A Reply → Type 0
+Names space named (Ok found) = IsSome space × (named ≡ Some found)
+Names {A} space named (Err refused) = (s : State) (f : Space → A → Stepped) → on_named s space named f ≡ replied s (reply_of refused)

@@ -1,17 +1,13 @@
--- What the code keeps of a state: for each space its number and its last version, and the next number of a space.
+-- What the code keeps of a state: for each space its number, its last version and change revisions, and what has a tag.
 use Rattle.std.specs.Prelude.{◌≡◌, ℕ, ◌-◌, ◌==◌, if◌then◌else◌, List, [], ◌∷◌, map, max, slice_get, Option, Some, None}
 use Rattle.std.specs.FinMap as finmap
-use Rattle.ty_model.specs.Disk.{Told}
-use Rattle.ty_model.specs.Values.{Id}
 use Rattle.ty_model.specs.Places.{Resolver}
 use Rattle.ty_model.specs.Version.{Version}
-use Rattle.ty_model.specs.LookUp.{look}
-use Rattle.ty_model.specs.Held.{Kept, version_of}
+use Rattle.ty_model.specs.Held.{Kept, version_of, Standing}
 use Rattle.ty_model.specs.Space.{Space}
-use Rattle.ty_model.specs.Counters.{Counters}
 use Rattle.tinymist_vfs.specs.declared.resolver.MockRootResolver.{MockRootResolver}
+use Rattle.tinymist_session.specs.declared.tagged.TaggedIds.{TaggedIds}
 use Rattle.tinymist_session.specs.Machine.{State}
-use Rattle.tinymist_session.specs.Reply.{Reply, BadView, BadId, reply_to}
 
 -- the packages of the session's resolver: none
 abbrev pub known : MockRootResolver → Resolver
@@ -32,21 +28,32 @@ highest (s ∷ ss) = max s.1.revision (highest ss)
 abbrev pub top_revision : Kept MockRootResolver → List (Kept MockRootResolver) → ℕ
 top_revision live views = highest (map shown (live ∷ views))
 
+-- the greater of the next numbers of a space and of an id
+abbrev pub next_number : TaggedIds → ℕ
+next_number tags = max tags.counters.next_space tags.counters.next_id
+
+-- a value shows a space: its number and its last version, and its change revisions stand for all versions
+pub record Shows (k : Kept MockRootResolver) (s : Space) : Type 0 where
+  pub same : shown k ≡ space_shown s
+  pub stands : Standing known k s.past
+
+-- each value shows the space of its place
+abbrev pub AllShow : List (Kept MockRootResolver) → List Space → Type 0
+AllShow [] [] = Unit {0}
+AllShow [] (s ∷ spaces) = ⊥
+AllShow (k ∷ kept) [] = ⊥
+AllShow (k ∷ kept) (s ∷ spaces) = Shows k s × AllShow kept spaces
+
 -- the code shows these parts of the state
-pub record IsShown (live : Kept MockRootResolver) (views : List (Kept MockRootResolver)) (tags : Counters) (s : State) : Type 0 where
-  pub live_is : shown live ≡ space_shown s.live
-  pub views_are : map shown views ≡ map space_shown s.views
-  pub next : tags.next_space ≡ s.next_space
+pub record IsShown (live : Kept MockRootResolver) (views : List (Kept MockRootResolver)) (tags : TaggedIds) (s : State) : Type 0 where
+  pub live_is : Shows live s.live
+  pub views_are : AllShow views s.views
+  pub next : tags.counters.next_space ≡ s.next_space
+  pub next_tag : tags.counters.next_id ≡ s.next_tag
+  pub tagged : tags.ids.items ≡ s.tagged
 
 abbrev pub kept_at : List (Kept MockRootResolver) → ℕ → Option (Kept MockRootResolver)
 kept_at views k = if k == 0 then None else slice_get views (k - 1)
 
 abbrev pub target_kept : Kept MockRootResolver → List (Kept MockRootResolver) → ℕ → Option (Kept MockRootResolver)
 target_kept live views target = if target == 0 then Some live else kept_at views target
-
--- ---- a read of a view
-
-abbrev pub read_reply : Option (Kept MockRootResolver) → Told → Option Id → Reply
-read_reply None disk id = BadView
-read_reply (Some view) disk None = BadId
-read_reply (Some view) disk (Some id) = reply_to (look (shown view).1 disk id)

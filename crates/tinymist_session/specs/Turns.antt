@@ -3,7 +3,7 @@ use Rattle.std.specs.Prelude.{◌≡◌, ℕ, ◌+◌, ◌-◌, ◌*◌, ◌≤�
 use Rattle.std.specs.Io.KnownBytes.{append_known, prepend_known}
 use Rattle.ty_model.specs.Disk.{Told}
 use Rattle.ty_model.specs.Held.{Kept}
-use Rattle.ty_model.specs.Counters.{Counters}
+use Rattle.tinymist_session.specs.declared.tagged.TaggedIds.{TaggedIds}
 use Rattle.tinymist_vfs.specs.declared.resolver.MockRootResolver.{MockRootResolver}
 use Rattle.tinymist_session.specs.Command.{Command}
 use Rattle.tinymist_session.specs.ByteSink.{TakesFront}
@@ -27,7 +27,7 @@ TurnReads command n (Err OutOfMemory) = ⊤
 TurnReads command n (Err ReadFault) = ⊥
 TurnReads command n (Err Full) = ⊥
 
-abbrev pub TurnSays : Stepped → Option (List ℕ) → Option (List ℕ) → Kept MockRootResolver → List (Kept MockRootResolver) → Counters → Result (Unit {0}) SessionFault → Type 0
+abbrev pub TurnSays : Stepped → Option (List ℕ) → Option (List ℕ) → Kept MockRootResolver → List (Kept MockRootResolver) → TaggedIds → Result (Unit {0}) SessionFault → Type 0
 TurnSays stepped old new live views tags (Ok done) = IsShown live views tags stepped.state × (new ≡ append_known old (reply_line stepped.reply))
 TurnSays stepped old new live views tags (Err fault) = TakesFront old new (reply_line stepped.reply)
 
@@ -67,7 +67,7 @@ PassEnds limits n rest left (Ok false) = ends limits n rest ≡ Whole
 PassEnds limits n rest left (Err fault) = EndFits (ends limits n rest) (Err fault)
 
 -- a line was answered, and the rest goes on from there
-pub record Passed (limits : session.Limits) (told : Told) (s : State) (n : ℕ) (rest : List ℕ) (left old new : Option (List ℕ)) (live : Kept MockRootResolver) (views : List (Kept MockRootResolver)) (tags : Counters) : Type 0 where
+pub record Passed (limits : session.Limits) (told : Told) (s : State) (n : ℕ) (rest : List ℕ) (left old new : Option (List ℕ)) (live : Kept MockRootResolver) (views : List (Kept MockRootResolver)) (tags : TaggedIds) : Type 0 where
   pub next : List ℕ
   pub state : State
   pub piece : List ℕ
@@ -79,7 +79,7 @@ pub record Passed (limits : session.Limits) (told : Told) (s : State) (n : ℕ) 
   pub stepped : state ≡ (step s told first.command).state
   pub said : piece ≡ reply_line (step s told first.command).reply
 
-abbrev pub PassSays : session.Limits → Told → State → ℕ → List ℕ → Option (List ℕ) → Option (List ℕ) → Option (List ℕ) → Kept MockRootResolver → List (Kept MockRootResolver) → Counters → Result Bool SessionFault → Type 0
+abbrev pub PassSays : session.Limits → Told → State → ℕ → List ℕ → Option (List ℕ) → Option (List ℕ) → Option (List ℕ) → Kept MockRootResolver → List (Kept MockRootResolver) → TaggedIds → Result Bool SessionFault → Type 0
 PassSays limits told s n rest left old new live views tags (Ok true) = Passed limits told s n rest left old new live views tags
 PassSays limits told s n rest left old new live views tags (Ok false) = new ≡ append_known old (replies limits told s n rest)
 PassSays limits told s n rest left old new live views tags (Err fault) = Written (replies limits told s n rest) old new (Err fault)
@@ -107,7 +107,7 @@ pub record Ahead (limits : session.Limits) (input : List ℕ) (n : ℕ) (left : 
   pub left_is : left ≡ Some rest
   pub same_end : ends limits 0 input ≡ ends limits n rest
 
-pub record Pending (limits : session.Limits) (told : Told) (input : List ℕ) (n : ℕ) (left : Option (List ℕ)) (disk : Option Told) (old new : Option (List ℕ)) (live : Kept MockRootResolver) (views : List (Kept MockRootResolver)) (tags : Counters) : Type 0 where
+pub record Pending (limits : session.Limits) (told : Told) (input : List ℕ) (n : ℕ) (left : Option (List ℕ)) (disk : Option Told) (old new : Option (List ℕ)) (live : Kept MockRootResolver) (views : List (Kept MockRootResolver)) (tags : TaggedIds) : Type 0 where
   pub rest : List ℕ
   pub state : State
   pub done : List ℕ

@@ -8,12 +8,13 @@ ghost use Rattle.tinymist_session.specs.ChangeSets.{set_said};
 ghost use Rattle.tinymist_session.specs.Said.{command_of, change_said, fields_of, ReadsChange};
 
 use crate::changes::CleanChanges;
-use crate::content::content;
+use crate::content::{ContentWord, IdWord, content, id};
 use crate::edit::Edit;
-use crate::words::{CleanPath, after_sign, cut, number, path, text_of};
+use crate::words::{CleanPath, after_sign, cut, number, path, text_of, virtual_path};
 use std::alloc::Global;
 use ty_cells::FileSnapshot;
 use ty_path::OutOfMemory;
+use ty_syntax::VirtualPath;
 
 /// What a line asks for. A target is 0 for the live state, and else the number of a view.
 #[derive(Drop)]
@@ -22,10 +23,16 @@ pub enum Command {
     Edit(u64, Edit),
     /// Takes a snapshot of the live state.
     Snapshot,
-    /// Reads a path in a view.
-    Read(u64, CleanPath),
+    /// Reads an id in a view.
+    Read(u64, IdWord),
     /// Lists the paths of a target's overlay.
     Paths(u64),
+    /// Maps an id of a target to what the content says of its virtual path.
+    MapId(u64, IdWord, ContentWord),
+    /// Takes an id out of a target's overlay.
+    UnmapId(u64, IdWord),
+    /// Makes an id of no workspace.
+    Rootless(VirtualPath),
 }
 
 /// One change of a change set.
@@ -68,6 +75,12 @@ fn sentence(alloc: Global, word: &str, fields: Option<&str>) -> Result<Option<Co
         notify_sentence(alloc, fields)
     } else if word == "paths" {
         Ok(paths_sentence(fields))
+    } else if word == "map-id" {
+        map_id_sentence(alloc, fields)
+    } else if word == "unmap-id" {
+        unmap_id_sentence(alloc, fields)
+    } else if word == "rootless" {
+        rootless_sentence(alloc, fields)
     } else {
         Ok(None)
     }
@@ -85,14 +98,59 @@ fn snapshot_sentence(fields: Option<&str>) -> Option<Command>
 fn read_sentence(alloc: Global, fields: Option<&str>) -> Result<Option<Command>, OutOfMemory>
     ensures { IfOk result (λ said. option_map command_of said ≡ grammar.read_sentence (fields_of fields.entry)) }
 {
-    let Some((view, id)) = two_fields(fields) else {
+    let Some((view, word)) = two_fields(fields) else {
         return Ok(None);
     };
     let Some(view) = number(view) else {
         return Ok(None);
     };
-    match path(alloc, id)? {
-        Some(path) => Ok(Some(Command::Read(view, path))),
+    match id(alloc, word)? {
+        Some(id) => Ok(Some(Command::Read(view, id))),
+        None => Ok(None),
+    }
+}
+
+fn map_id_sentence(alloc: Global, fields: Option<&str>) -> Result<Option<Command>, OutOfMemory>
+    ensures { IfOk result (λ said. option_map command_of said ≡ grammar.map_id_sentence (fields_of fields.entry)) }
+{
+    let Some((target, word, says)) = three_fields(fields) else {
+        return Ok(None);
+    };
+    let Some(target) = number(target) else {
+        return Ok(None);
+    };
+    let Some(id) = id(alloc, word)? else {
+        return Ok(None);
+    };
+    match content(alloc, says)? {
+        Some(content) => Ok(Some(Command::MapId(target, id, content))),
+        None => Ok(None),
+    }
+}
+
+fn unmap_id_sentence(alloc: Global, fields: Option<&str>) -> Result<Option<Command>, OutOfMemory>
+    ensures { IfOk result (λ said. option_map command_of said ≡ grammar.unmap_id_sentence (fields_of fields.entry)) }
+{
+    let Some((target, word)) = two_fields(fields) else {
+        return Ok(None);
+    };
+    let Some(target) = number(target) else {
+        return Ok(None);
+    };
+    match id(alloc, word)? {
+        Some(id) => Ok(Some(Command::UnmapId(target, id))),
+        None => Ok(None),
+    }
+}
+
+fn rootless_sentence(alloc: Global, fields: Option<&str>) -> Result<Option<Command>, OutOfMemory>
+    ensures { IfOk result (λ said. option_map command_of said ≡ grammar.rootless_sentence (fields_of fields.entry)) }
+{
+    let Some(word) = one_field(fields) else {
+        return Ok(None);
+    };
+    match virtual_path(alloc, word)? {
+        Some(vpath) => Ok(Some(Command::Rootless(vpath))),
         None => Ok(None),
     }
 }

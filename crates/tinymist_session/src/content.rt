@@ -1,10 +1,10 @@
-//! Contents as lines write them.
+//! Contents and ids as lines write them.
 ghost use Rattle.std.specs.Prelude.{◌≡◌, IfOk};
 ghost use Rattle.std.specs.Option.{option_map};
 ghost use Rattle.tinymist_session.specs.Grammar as grammar;
-ghost use Rattle.tinymist_session.specs.Said.{content_said};
+ghost use Rattle.tinymist_session.specs.Said.{content_said, id_said};
 
-use crate::words::after_sign;
+use crate::words::{CleanPath, after_sign, number, path};
 use hex::FromHexError;
 use std::alloc::Global;
 use ty_cells::FileSnapshot;
@@ -13,13 +13,22 @@ use ty_syntax::{Bytes, FileError};
 
 /// A content as it is written in a line.
 #[derive(Drop)]
-pub(crate) enum ContentWord {
+pub enum ContentWord {
     /// The bytes of a file.
     Bytes(Vec<u8>),
     /// No file, wherever it is said of.
     Missing,
     /// An error that carries no path.
     Refused(FileError),
+}
+
+/// An id as it is written in a line.
+#[derive(Drop)]
+pub enum IdWord {
+    /// The file of a path in the workspace of its parent.
+    Path(CleanPath),
+    /// The id of a tag.
+    Tag(u64),
 }
 
 impl ContentWord {
@@ -70,5 +79,21 @@ fn bytes(alloc: Global, digits: &str) -> Result<Option<ContentWord>, OutOfMemory
         Ok(bytes) => Ok(Some(ContentWord::Bytes(bytes))),
         Err(FromHexError::OutOfMemory) => Err(OutOfMemory),
         Err(_) => Ok(None),
+    }
+}
+
+/// An id: `#` and a tag, or a path.
+pub(crate) fn id(alloc: Global, word: &str) -> Result<Option<IdWord>, OutOfMemory>
+    ensures { IfOk result (λ id. option_map id_said id ≡ grammar.id_of word.now) }
+{
+    if let Some(digits) = after_sign('#', word) {
+        return match number(digits) {
+            Some(tag) => Ok(Some(IdWord::Tag(tag))),
+            None => Ok(None),
+        };
+    }
+    match path(alloc, word)? {
+        Some(path) => Ok(Some(IdWord::Path(path))),
+        None => Ok(None),
     }
 }

@@ -2,6 +2,7 @@
 use crate::changes::CleanChanges;
 use crate::words::CleanPath;
 use ty_cells::FileSnapshot;
+use ty_syntax::FileId;
 
 /// An edit of a space.
 #[derive(Drop)]
@@ -10,6 +11,10 @@ pub enum Edit {
     MapPath(CleanPath, FileSnapshot),
     /// Takes a path out of the overlay.
     UnmapPath(CleanPath),
+    /// Maps an id to what its file is to be.
+    MapId(FileId, FileSnapshot),
+    /// Takes an id out of the overlay.
+    UnmapId(FileId),
     /// Empties the overlays.
     Clear,
     /// Tells a change set.

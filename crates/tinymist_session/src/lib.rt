@@ -15,12 +15,14 @@ mod session;
 mod sink;
 mod source;
 mod system;
+mod tagged;
 #[cfg(test)]
 mod tests;
 mod words;
 
 pub use changes::CleanChanges;
 pub use command::{Command, read_command};
+pub use content::{ContentWord, IdWord};
 pub use edit::Edit;
 pub use limits::{DEFAULT_LIMITS, Limits};
 pub use memory::{MemorySink, MemorySource};

@@ -22,6 +22,8 @@ pub enum Reply {
     Fails(FileError),
     /// The paths of an overlay, ascending.
     PathList(Vec<ImmutPath>),
+    /// The tag of a new id.
+    IdTag(u64),
     /// There is no view of that number.
     BadView,
     /// The word names no id.
@@ -56,6 +58,7 @@ pub fn line_of(alloc: Global, reply: Reply) -> Result<Vec<u8>, AllocError>
             format!(in alloc; "fail\t{word}\n")
         }
         Reply::PathList(paths) => return paths_line(alloc, &paths),
+        Reply::IdTag(tag) => format!(in alloc; "id\t#{tag}\n"),
         Reply::BadView => String::from_str(alloc, "err\tview\n"),
         Reply::BadId => String::from_str(alloc, "err\tid\n"),
     };

@@ -8,6 +8,7 @@ ghost use Rattle.tinymist_session.specs.Grammar as grammar;
 
 use std::alloc::Global;
 use ty_path::{OutOfMemory, clean, is_absolute};
+use ty_syntax::{PathFault, VirtualPath};
 
 /// The line as text, where it is UTF-8 without control bytes but tabs.
 pub(crate) fn text_of(line: &[u8]) -> Option<&str>
@@ -106,4 +107,18 @@ pub(crate) fn after_sign(sign: char, word: &str) -> Option<&str>
     ensures none { IfNone result (grammar.after_sign sign word.now ≡ None) }
 {
     word.strip_prefix(sign)
+}
+
+/// The word, where it is a virtual path.
+pub(crate) fn virtual_path(alloc: Global, word: &str) -> Result<Option<VirtualPath>, OutOfMemory>
+    ensures { IfOk result (λ vpath. vpath ≡ grammar.vpath_of word.now) }
+{
+    let Some(path) = path(alloc, word)? else {
+        return Ok(None);
+    };
+    match VirtualPath::new(alloc, path.as_str()) {
+        Ok(vpath) => Ok(Some(vpath)),
+        Err(PathFault::OutOfMemory) => Err(OutOfMemory),
+        Err(_) => Ok(None),
+    }
 }

@@ -1,7 +1,7 @@
 use Rattle.std.proofs.Common.{◌≡◌, ◌+◌, ◌≤◌, List, ℕ, Some}
 use Rattle.ty_model.specs.Disk.{Told, IsFixed}
 use Rattle.tinymist_session.specs.LineReader.{ahead}
-use Rattle.tinymist_session.specs.Shown.{top_revision}
+use Rattle.tinymist_session.specs.Shown.{top_revision, next_number}
 use Rattle.tinymist_session.specs.Turns.{Ahead, Pending, limits_of}
 use Rattle.tinymist_session.proofs.session.Session.run.Given as goal
 
@@ -11,7 +11,7 @@ invariant-loop-n g l = record {
   pending : (input : List ℕ) (told : Told) → g.S.LineSource.left l.fn.source ≡ Some input → g.M.PathAccessModel.told l.fn.disk ≡ Some told → IsFixed told
       → Pending (limits_of l.fn.limits) told input l.n (ahead l.self.reader (g.S.LineSource.left l.source)) (g.M.PathAccessModel.told l.disk) (g.W.ByteSink.taken l.fn.sink) (g.W.ByteSink.taken l.sink) l.self.machine.live l.self.machine.views.items l.self.machine.tags;
   revision : top_revision l.self.machine.live l.self.machine.views.items ≤ 2 + l.n;
-  space : l.self.machine.tags.next_space ≤ 2 + l.n;
+  space : next_number l.self.machine.tags ≤ 3 + l.n;
   reads : g.S.LineSource.faults l.fn.source ≤ g.S.LineSource.faults l.source;
   faults : g.W.ByteSink.faults l.fn.sink ≤ g.W.ByteSink.faults l.sink;
   dry : g.W.ByteSink.dry l.fn.sink ≤ g.W.ByteSink.dry l.sink;
