@@ -126,10 +126,9 @@ abbrev pub map_id_of : Option ℕ → Option IdWord → Option ContentWord → O
 map_id_of (Some target) (Some id) (Some content) = Some (MapId target id content)
 map_id_of target id content = None
 
--- a command of a number and an id
-abbrev pub of_id : (ℕ → IdWord → Command) → Option ℕ → Option IdWord → Option Command
-of_id command (Some number) (Some id) = Some (command number id)
-of_id command number id = None
+abbrev pub both_of : {A B : Type 0} → Option A → Option B → Option (A × B)
+both_of (Some a) (Some b) = Some (a, b)
+both_of a b = None
 
 abbrev pub line_sentence_of : Option ℕ → Option IdWord → Option ℕ → Option Command
 line_sentence_of (Some view) (Some id) (Some offset) = Some (Line view id offset)
@@ -173,15 +172,19 @@ snapshot_sentence fields = None
 abbrev pub map_id_sentence : List (List ℕ) → Option Command
 map_id_sentence fields = option_and_then (λ f. map_id_of (number_of f.0) (id_of f.1) (content_of f.2)) (three_of fields)
 
--- read VIEW ID, and other words of a number and an id
+-- TARGET, or VIEW, and ID
+abbrev pub number_and_id : List (List ℕ) → Option (ℕ × IdWord)
+number_and_id fields = option_and_then (λ f. both_of (number_of f.0) (id_of f.1)) (two_of fields)
+
+-- read VIEW ID, and other sentences of a number and an id
 abbrev pub id_sentence : (ℕ → IdWord → Command) → List (List ℕ) → Option Command
-id_sentence command fields = option_and_then (λ f. of_id command (number_of f.0) (id_of f.1)) (two_of fields)
+id_sentence command fields = option_map (λ f. command f.0 f.1) (number_and_id fields)
 
 -- line VIEW ID OFFSET
 abbrev pub line_sentence : List (List ℕ) → Option Command
 line_sentence fields = option_and_then (λ f. line_sentence_of (number_of f.0) (id_of f.1) (number_of f.2)) (three_of fields)
 
--- paths TARGET, and other words of a target
+-- paths TARGET, and other sentences of a target alone
 abbrev pub target_sentence : (ℕ → Command) → List (List ℕ) → Option Command
 target_sentence command fields = option_map command (option_and_then number_of (one_of fields))
 

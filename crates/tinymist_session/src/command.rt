@@ -21,18 +21,28 @@ use ty_syntax::VirtualPath;
 pub enum Command {
     /// Edits a target.
     Edit(u64, Edit),
-    /// Takes a snapshot of the live state.
-    Snapshot,
-    /// Reads an id in a view.
-    Read(u64, IdWord),
-    /// Lists the paths of a target's overlay.
-    Paths(u64),
-    /// Maps an id of a target to what the content says of its virtual path.
+    /// Maps an id of a target.
     MapId(u64, IdWord, ContentWord),
     /// Takes an id out of a target's overlay.
     UnmapId(u64, IdWord),
     /// Makes an id of no workspace.
     Rootless(VirtualPath),
+    /// Takes a snapshot of the live state.
+    Snapshot,
+    /// Reads an id in a view.
+    Read(u64, IdWord),
+    /// Reads the source of an id in a view.
+    Source(u64, IdWord),
+    /// Finds the place of an offset in the source of an id in a view.
+    Line(u64, IdWord, u64),
+    /// Lists the paths of a target's overlay.
+    Paths(u64),
+    /// Lists the ids of a target's overlay.
+    Ids(u64),
+    /// Finds where an id stands in a target.
+    Path(u64, IdWord),
+    /// Asks whether ids of a target are clean since a revision.
+    Clean(u64, u64, Vec<IdWord>),
 }
 
 /// One change of a change set.
@@ -81,6 +91,16 @@ fn sentence(alloc: Global, word: &str, fields: Option<&str>) -> Result<Option<Co
         unmap_id_sentence(alloc, fields)
     } else if word == "rootless" {
         rootless_sentence(alloc, fields)
+    } else if word == "ids" {
+        Ok(ids_sentence(fields))
+    } else if word == "path" {
+        path_sentence(alloc, fields)
+    } else if word == "source" {
+        source_sentence(alloc, fields)
+    } else if word == "line" {
+        line_sentence(alloc, fields)
+    } else if word == "clean" {
+        clean_sentence(alloc, fields)
     } else {
         Ok(None)
     }
@@ -96,16 +116,55 @@ fn snapshot_sentence(fields: Option<&str>) -> Option<Command>
 }
 
 fn read_sentence(alloc: Global, fields: Option<&str>) -> Result<Option<Command>, OutOfMemory>
-    ensures { IfOk result (λ said. option_map command_of said ≡ grammar.read_sentence (fields_of fields.entry)) }
+    ensures { IfOk result (λ said. option_map command_of said ≡ grammar.id_sentence plain.Read (fields_of fields.entry)) }
 {
-    let Some((view, word)) = two_fields(fields) else {
+    match number_and_id(alloc, fields)? {
+        Some((view, id)) => Ok(Some(Command::Read(view, id))),
+        None => Ok(None),
+    }
+}
+
+fn source_sentence(alloc: Global, fields: Option<&str>) -> Result<Option<Command>, OutOfMemory>
+    ensures { IfOk result (λ said. option_map command_of said ≡ grammar.id_sentence plain.Source (fields_of fields.entry)) }
+{
+    match number_and_id(alloc, fields)? {
+        Some((view, id)) => Ok(Some(Command::Source(view, id))),
+        None => Ok(None),
+    }
+}
+
+fn path_sentence(alloc: Global, fields: Option<&str>) -> Result<Option<Command>, OutOfMemory>
+    ensures { IfOk result (λ said. option_map command_of said ≡ grammar.id_sentence plain.Path (fields_of fields.entry)) }
+{
+    match number_and_id(alloc, fields)? {
+        Some((target, id)) => Ok(Some(Command::Path(target, id))),
+        None => Ok(None),
+    }
+}
+
+fn unmap_id_sentence(alloc: Global, fields: Option<&str>) -> Result<Option<Command>, OutOfMemory>
+    ensures { IfOk result (λ said. option_map command_of said ≡ grammar.id_sentence plain.UnmapId (fields_of fields.entry)) }
+{
+    match number_and_id(alloc, fields)? {
+        Some((target, id)) => Ok(Some(Command::UnmapId(target, id))),
+        None => Ok(None),
+    }
+}
+
+fn line_sentence(alloc: Global, fields: Option<&str>) -> Result<Option<Command>, OutOfMemory>
+    ensures { IfOk result (λ said. option_map command_of said ≡ grammar.line_sentence (fields_of fields.entry)) }
+{
+    let Some((view, word, offset)) = three_fields(fields) else {
         return Ok(None);
     };
     let Some(view) = number(view) else {
         return Ok(None);
     };
-    match id(alloc, word)? {
-        Some(id) => Ok(Some(Command::Read(view, id))),
+    let Some(id) = id(alloc, word)? else {
+        return Ok(None);
+    };
+    match number(offset) {
+        Some(offset) => Ok(Some(Command::Line(view, id, offset))),
         None => Ok(None),
     }
 }
@@ -124,33 +183,6 @@ fn map_id_sentence(alloc: Global, fields: Option<&str>) -> Result<Option<Command
     };
     match content(alloc, says)? {
         Some(content) => Ok(Some(Command::MapId(target, id, content))),
-        None => Ok(None),
-    }
-}
-
-fn unmap_id_sentence(alloc: Global, fields: Option<&str>) -> Result<Option<Command>, OutOfMemory>
-    ensures { IfOk result (λ said. option_map command_of said ≡ grammar.unmap_id_sentence (fields_of fields.entry)) }
-{
-    let Some((target, word)) = two_fields(fields) else {
-        return Ok(None);
-    };
-    let Some(target) = number(target) else {
-        return Ok(None);
-    };
-    match id(alloc, word)? {
-        Some(id) => Ok(Some(Command::UnmapId(target, id))),
-        None => Ok(None),
-    }
-}
-
-fn rootless_sentence(alloc: Global, fields: Option<&str>) -> Result<Option<Command>, OutOfMemory>
-    ensures { IfOk result (λ said. option_map command_of said ≡ grammar.rootless_sentence (fields_of fields.entry)) }
-{
-    let Some(word) = one_field(fields) else {
-        return Ok(None);
-    };
-    match virtual_path(alloc, word)? {
-        Some(vpath) => Ok(Some(Command::Rootless(vpath))),
         None => Ok(None),
     }
 }
@@ -190,17 +222,54 @@ fn unmap_sentence(alloc: Global, fields: Option<&str>) -> Result<Option<Command>
 }
 
 fn clear_sentence(fields: Option<&str>) -> Option<Command>
-    ensures { option_map command_of result ≡ grammar.clear_sentence (fields_of fields.entry) }
+    ensures { option_map command_of result ≡ grammar.target_sentence (λ target. plain.Edit target Clear) (fields_of fields.entry) }
 {
     let target = number(one_field(fields)?)?;
     Some(Command::Edit(target, Edit::Clear))
 }
 
 fn paths_sentence(fields: Option<&str>) -> Option<Command>
-    ensures { option_map command_of result ≡ grammar.paths_sentence (fields_of fields.entry) }
+    ensures { option_map command_of result ≡ grammar.target_sentence plain.Paths (fields_of fields.entry) }
 {
     let target = number(one_field(fields)?)?;
     Some(Command::Paths(target))
+}
+
+fn ids_sentence(fields: Option<&str>) -> Option<Command>
+    ensures { option_map command_of result ≡ grammar.target_sentence plain.Ids (fields_of fields.entry) }
+{
+    let target = number(one_field(fields)?)?;
+    Some(Command::Ids(target))
+}
+
+fn rootless_sentence(alloc: Global, fields: Option<&str>) -> Result<Option<Command>, OutOfMemory>
+    ensures { IfOk result (λ said. option_map command_of said ≡ grammar.rootless_sentence (fields_of fields.entry)) }
+{
+    let Some(word) = one_field(fields) else {
+        return Ok(None);
+    };
+    match virtual_path(alloc, word)? {
+        Some(vpath) => Ok(Some(Command::Rootless(vpath))),
+        None => Ok(None),
+    }
+}
+
+fn clean_sentence(alloc: Global, fields: Option<&str>) -> Result<Option<Command>, OutOfMemory>
+    ensures { IfOk result (λ said. option_map command_of said ≡ grammar.clean_sentence (fields_of fields.entry)) }
+{
+    let Some((target, revision, words)) = two_or_more_fields(fields) else {
+        return Ok(None);
+    };
+    let Some(target) = number(target) else {
+        return Ok(None);
+    };
+    let Some(revision) = number(revision) else {
+        return Ok(None);
+    };
+    match ids(alloc, words)? {
+        Some(ids) => Ok(Some(Command::Clean(target, revision, ids))),
+        None => Ok(None),
+    }
 }
 
 fn notify_sentence(alloc: Global, fields: Option<&str>) -> Result<Option<Command>, OutOfMemory>
@@ -208,6 +277,42 @@ fn notify_sentence(alloc: Global, fields: Option<&str>) -> Result<Option<Command
 {
     match changes(alloc, fields)? {
         Some(changes) => Ok(Some(Command::Edit(0, Edit::Notify(changes)))),
+        None => Ok(None),
+    }
+}
+
+/// The ids that all fields write.
+fn ids(alloc: Global, fields: Option<&str>) -> Result<Option<Vec<IdWord>>, OutOfMemory>
+    ensures { IfOk result (λ all. option_map (λ ids. map id_said ids.items) all ≡ grammar.ids_of (fields_of fields.entry)) }
+{
+    let mut all = Vec::new(alloc);
+    let mut left = fields;
+    while let Some(text) = left {
+        let (word, rest) = first_field(text);
+        let Some(id) = id(alloc, word)? else {
+            return Ok(None);
+        };
+        all.push(id)?;
+        left = rest;
+    }
+    Ok(Some(all))
+}
+
+/// The number and the id that two fields write.
+fn number_and_id(
+    alloc: Global,
+    fields: Option<&str>,
+) -> Result<Option<(u64, IdWord)>, OutOfMemory>
+    ensures { IfOk result (λ both. option_map (λ f. (f.0, id_said f.1)) both ≡ grammar.number_and_id (fields_of fields.entry)) }
+{
+    let Some((first, word)) = two_fields(fields) else {
+        return Ok(None);
+    };
+    let Some(number) = number(first) else {
+        return Ok(None);
+    };
+    match id(alloc, word)? {
+        Some(id) => Ok(Some((number, id))),
         None => Ok(None),
     }
 }
@@ -310,4 +415,14 @@ fn three_fields(fields: Option<&str>) -> Option<(&str, &str, &str)>
         None => Some((first, second, third)),
         Some(_) => None,
     }
+}
+
+/// The first two fields, and the fields after them.
+fn two_or_more_fields(fields: Option<&str>) -> Option<(&str, &str, Option<&str>)>
+    ensures some { IfSome result (λ f. fields_of fields.entry ≡ f.0.now ∷ f.1.now ∷ fields_of f.2) }
+    ensures none { IfNone result (grammar.clean_sentence (fields_of fields.entry) ≡ None) }
+{
+    let (first, rest) = cut(fields?)?;
+    let (second, rest) = first_field(rest);
+    Some((first, second, rest))
 }
