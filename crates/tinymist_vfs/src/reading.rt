@@ -1,10 +1,11 @@
-//! A read of an id: what the layers decide, else what the disk says.
+//! A read of an id, and its source: what the layers decide, else what the disk says.
 ghost use Rattle.std.specs.Prelude.{◌≡◌, ◌⊎◌, IfOk, Option};
 ghost use Rattle.ty_path.specs.Shared.{path_text};
+ghost use Rattle.ty_model.specs.Values.{Content};
 ghost use Rattle.ty_model.specs.LookUp as plain;
 ghost use Rattle.ty_model.specs.Disk.{Told};
 ghost use Rattle.ty_model.specs.Held.{version_of};
-ghost use Rattle.tinymist_vfs.specs.Reading.{decision_of, ReadsAsTold, AsksAsTold};
+ghost use Rattle.tinymist_vfs.specs.Reading.{decision_of, ReadsAsTold, AsksAsTold, SourcesAs, SourcesAsTold};
 
 use crate::layers::Layers;
 use crate::resolver::{PathResolution, RootResolver};
@@ -14,7 +15,7 @@ use std::alloc::Global;
 use std::sync::Arc;
 use ty_cells::{FileSnapshot, OwnCells, PathAccessModel};
 use ty_path::{ImmutPath, OutOfMemory, Share};
-use ty_syntax::{Bytes, FileError, FileFault, FileId, FileResult};
+use ty_syntax::{Bytes, FileError, FileFault, FileId, FileResult, Source, text_of};
 
 /// What a version says of an id by itself.
 #[derive(Drop)]
@@ -80,6 +81,23 @@ impl<R: RootResolver> Vfs<R> {
         }
     }
 
+    /// The source of an id: the text of what `read` gives, after at most one mark of order.
+    ///
+    /// # Errors
+    ///
+    /// `InvalidUtf8` exactly where the bytes have no text; else as `read`.
+    pub fn source<M: PathAccessModel>(
+        &self,
+        cells: &mut OwnCells<'_, M>,
+        id: &FileId,
+    ) -> FileResult<Source>
+        ensures same_disk { cells.new.disk.ghost_name ≡ cells.old.disk.ghost_name }
+        ensures read { SourcesAsTold (plain.decision (version_of R.known self.now) id.now) id.now (M.told cells.old.disk.now) result (M.told cells.new.disk.now) }
+    {
+        let bytes = self.read(cells, id)?;
+        source_with(self.alloc, id, &bytes)
+    }
+
     fn ask<M: PathAccessModel>(&self, cells: &mut OwnCells<'_, M>, path: &str) -> FileResult<Bytes>
         ensures same_disk { cells.new.disk.ghost_name ≡ cells.old.disk.ghost_name }
         ensures read { AsksAsTold path.now (M.told cells.old.disk.now) result (M.told cells.new.disk.now) }
@@ -87,4 +105,12 @@ impl<R: RootResolver> Vfs<R> {
         let answer = cells.ask(self.alloc, path)?;
         answer.into_content(self.alloc)
     }
+}
+
+/// The source of an id with these bytes.
+fn source_with(alloc: Global, id: &FileId, bytes: &Bytes) -> FileResult<Source>
+    ensures { SourcesAs (Content bytes.now) id.now result }
+{
+    let text = String::from_str(alloc, text_of(bytes.as_slice())?)?;
+    Ok(Source::new(alloc, id.share(alloc)?, text)?)
 }
