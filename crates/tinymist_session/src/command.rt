@@ -1,11 +1,13 @@
 //! The command that a line reads as.
-ghost use Rattle.std.specs.Prelude.{◌≡◌, ◌∷◌, [], None, IfOk, IfSome, IfNone};
+ghost use Rattle.std.specs.Prelude.{◌≡◌, ◌∷◌, [], map, None, IfOk, IfSome, IfNone};
 ghost use Rattle.std.specs.Option.{option_map, option_copied};
+ghost use Rattle.ty_model.specs.Batch.{Clear};
 ghost use Rattle.ty_model.specs.Paths.{parts_at};
+ghost use Rattle.tinymist_session.specs.Command as plain;
 ghost use Rattle.tinymist_session.specs.Grammar as grammar;
 ghost use Rattle.tinymist_session.specs.Grammar.{one_of, two_of, three_of, told_of, path_of, content_of};
 ghost use Rattle.tinymist_session.specs.ChangeSets.{set_said};
-ghost use Rattle.tinymist_session.specs.Said.{command_of, change_said, fields_of, ReadsChange};
+ghost use Rattle.tinymist_session.specs.Said.{command_of, change_said, id_said, fields_of, ReadsChange};
 
 use crate::changes::CleanChanges;
 use crate::content::{ContentWord, IdWord, content, id};

@@ -4,6 +4,7 @@ ghost use Rattle.std.specs.Option.{option_map};
 ghost use Rattle.ty_syntax.specs.LineTable.{entry, table};
 ghost use Rattle.ty_syntax.specs.Lines.{ends_line, line_starts, line_at, line_of, line_range, place, units_before, units_by_line, start_at};
 
+use crate::place::Place;
 use crate::text::{characters, is_place, units, units_of};
 use std::alloc::Global;
 use std::marker::Model;
@@ -87,6 +88,22 @@ impl Lines {
         }
         let start = self.start_at(byte);
         Some(start.utf16 + units(&self.text.as_bytes()[start.byte..byte]))
+    }
+
+    /// The place of a byte: `None` exactly past the text's end and inside a character.
+    pub fn byte_to_place(&self, byte: usize) -> Option<Place>
+        ensures { result ≡ place self.now byte }
+    {
+        if !is_place(self.text.as_str(), byte) {
+            return None;
+        }
+        let start = self.start_at(byte);
+        let since = &self.text.as_bytes()[start.byte..byte];
+        Some(Place {
+            line: self.line_at(byte),
+            column: characters(since),
+            utf16: units(since),
+        })
     }
 
     /// Where a line starts: `None` exactly where there is no such line.
