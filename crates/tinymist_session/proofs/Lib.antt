@@ -2,6 +2,7 @@ pub mod Pieces
 pub mod Lfs
 pub mod Known
 pub mod Decimals
+pub mod Showing
 pub mod Reading
 pub mod Changing
 pub mod Edits

@@ -6,7 +6,7 @@ use Rattle.std.specs.Option.{option_map, option_and_then}
 use Rattle.ty_model.specs.Values.{Id, Project, Answer, Content}
 use Rattle.ty_model.specs.Places.{id_by_parent, place_of, detached_entry, memory_main_entry}
 use Rattle.ty_model.specs.Disk.{Told}
-use Rattle.ty_model.specs.Version.{first_version, same_id}
+use Rattle.ty_model.specs.Version.{Version, first_version, same_id}
 use Rattle.ty_model.specs.Batch as batch
 use Rattle.ty_model.specs.Batch.{Item}
 use Rattle.ty_model.specs.LookUp.{look}
@@ -121,25 +121,31 @@ snapshot_step s = record {
 abbrev pub with_asked : Id → Space → Space
 with_asked id s = if s.compiling && not (list_any (same_id id) s.asked) then record s { asked = s.asked ++ id ∷ [] } else s
 
--- a look-up of an id in the last version of a view, which is asked for
-abbrev pub looked_up : State → Told → ℕ → Space → Id → (Answer → Reply) → Stepped
-looked_up s disk k view id reply = record {
-  state = record s { views = slice_set s.views (k - 1) (with_asked id view) };
-  reply = reply (look view.now disk id);
-}
+-- the state after an id of a view was asked for
+abbrev pub asking : State → ℕ → Space → Id → State
+asking s k view id = record s { views = slice_set s.views (k - 1) (with_asked id view) }
 
--- the source of an id: that of the detached entry is empty, and asks for nothing
-abbrev pub source_read : State → Told → ℕ → Space → Id → (Answer → Reply) → Stepped
-source_read s disk k view id reply =
-    if same_id id detached_entry then replied s (reply (Content []))
-    else looked_up s disk k view id (λ answer. reply (source_of answer))
+-- a read looks the id up in the last version of the view
+abbrev pub read_in : State → Told → ℕ → Space → Id → Stepped
+read_in s disk k view id = record { state = asking s k view id; reply = reply_to (look view.now disk id) }
 
 abbrev pub read_step : State → Told → ℕ → IdWord → Stepped
-read_step s disk k word = on_named s (view_at s.views k) (id_for s.tagged word) (λ view id. looked_up s disk k view id reply_to)
+read_step s disk k word = on_named s (view_at s.views k) (id_for s.tagged word) (read_in s disk k)
+
+-- the source of an id in a version over a disk; that of the detached entry is empty
+abbrev pub source_at : Version → Told → Id → Answer
+source_at v disk id = if same_id id detached_entry then Content [] else source_of (look v disk id)
+
+-- the source of an id in the last version of a view; the detached entry isn't asked for
+abbrev pub source_in : State → Told → (Answer → Reply) → ℕ → Space → Id → Stepped
+source_in s disk reply k view id = record {
+  state = if same_id id detached_entry then s else asking s k view id;
+  reply = reply (source_at view.now disk id);
+}
 
 -- a sentence that reads the source of an id, and makes a reply of it
 abbrev pub source_step : State → Told → ℕ → IdWord → (Answer → Reply) → Stepped
-source_step s disk k word reply = on_named s (view_at s.views k) (id_for s.tagged word) (λ view id. source_read s disk k view id reply)
+source_step s disk k word reply = on_named s (view_at s.views k) (id_for s.tagged word) (source_in s disk reply k)
 
 -- ---- questions that change nothing
 

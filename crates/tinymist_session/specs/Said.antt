@@ -1,16 +1,17 @@
 -- Commands and replies of the code as those of the definitions.
-use Rattle.std.specs.Prelude.{◌≡◌, ℕ, ◌<◌, List, [], map, length, Option, Some, None, IsSome, Result, Ok, Err}
+use Rattle.std.specs.Prelude.{◌≡◌, ℕ, ◌<◌, List, [], map, length, Option, Some, None, Result, Ok, Err, ⊤}
 use Rattle.std.specs.String.{string_bytes}
 use Rattle.std.specs.Borrow.{Bor}
 use Rattle.ty_model.specs.Batch as batch
-use Rattle.ty_model.specs.Values.{Id}
-use Rattle.ty_model.specs.Space.{Space}
+use Rattle.ty_model.specs.Values.{Answer, Content, Refused}
 use Rattle.ty_model.specs.Paths.{parts_at}
 use Rattle.ty_path.specs.Shared.{path_text}
 use Rattle.ty_syntax.specs.Error.{refusal_of}
+use Rattle.ty_syntax.specs.Source.{Source}
+use Rattle.ty_syntax.specs.declared.error.FileFault.{FileFault}
+use Rattle.ty_syntax.specs.declared.error.FileFault.TheVariants.{File, OutOfMemory}
 use Rattle.tinymist_session.specs.Command as plain
 use Rattle.tinymist_session.specs.Grammar.{Changes, removing, telling, joined, changes_of}
-use Rattle.tinymist_session.specs.Machine.{State, Stepped, on_named, replied}
 use Rattle.tinymist_session.specs.Reply as plain_reply
 use Rattle.tinymist_session.specs.Words as words
 use Rattle.tinymist_session.specs.declared.limits.Options.{Options}
@@ -67,13 +68,13 @@ abbrev pub reply_of : Reply → plain_reply.Reply
 reply_of (reply.AtRevision revision) = plain_reply.AtRevision revision
 reply_of (reply.ViewNumber number) = plain_reply.ViewNumber number
 reply_of (reply.Contents bytes) = plain_reply.Contents bytes
-reply_of (reply.Text text) = plain_reply.Text (string_bytes text)
-reply_of (reply.AtPlace line column unit) = plain_reply.AtPlace (record { line = line; column = column; unit = unit })
+reply_of (reply.Text source) = plain_reply.Text source.text
+reply_of (reply.AtPlace place) = plain_reply.AtPlace place
 reply_of (reply.Fails error) = plain_reply.Fails (refusal_of error)
 reply_of (reply.PathList paths) = plain_reply.PathList (map path_text paths.items)
 reply_of (reply.IdList ids) = plain_reply.IdList ids.items
 reply_of (reply.IdTag tag) = plain_reply.IdTag tag
-reply_of (reply.AtPath path) = plain_reply.AtPath (path_text path)
+reply_of (reply.AtPath path) = plain_reply.AtPath (string_bytes path)
 reply_of (reply.RootlessAt vpath) = plain_reply.RootlessAt vpath
 reply_of (reply.IsClean clean) = plain_reply.IsClean clean
 reply_of reply.BadView = plain_reply.BadView
@@ -94,7 +95,8 @@ abbrev pub ReadsChange : List ℕ → Option (Change × Option (Bor (List ℕ)))
 ReadsChange text None = changes_of (parts_at 9 text) ≡ None
 ReadsChange text (Some (change, rest)) = (changes_of (parts_at 9 text) ≡ joined (Some (change_said change)) (changes_of (fields_of rest))) × (length (fields_of rest) < length (parts_at 9 text))
 
--- the space and what a line names in it, or what is replied where one of them is missing
-abbrev pub Names : {A : Type 0} → Option Space → Option A → Result A Reply → Type 0
-Names space named (Ok found) = IsSome space × (named ≡ Some found)
-Names {A} space named (Err refused) = (s : State) (f : Space → A → Stepped) → on_named s space named f ≡ replied s (reply_of refused)
+-- the source that is given has the text of this answer, or the error is its refusal
+abbrev pub GivesSource : Answer → Result Source FileFault → Type 0
+GivesSource answer (Ok source) = answer ≡ Content source.text
+GivesSource answer (Err (File error)) = answer ≡ Refused (refusal_of error)
+GivesSource answer (Err OutOfMemory) = ⊤

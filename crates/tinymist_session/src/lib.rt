@@ -9,11 +9,13 @@ mod limits;
 mod machine;
 mod memory;
 mod program;
+mod questions;
 mod reader;
 mod reply;
 mod session;
 mod sink;
 mod source;
+mod space;
 mod system;
 mod tagged;
 #[cfg(test)]

@@ -3,14 +3,14 @@ ghost use Rattle.std.specs.Prelude.{◌≡◌, ◌∷◌, ◌++◌, [], IfOk, ma
 ghost use Rattle.std.specs.String.{string_bytes};
 ghost use Rattle.hex.specs.Hex.{encode_lower};
 ghost use Rattle.ty_path.specs.Shared.{path_text};
-ghost use Rattle.tinymist_session.specs.Reply.{reply_line, fail_word, id_word, Contents, Text, PathList, IdList};
+ghost use Rattle.tinymist_session.specs.Reply.{reply_line, fail_word, id_word, AtPlace, Contents, Text, PathList, IdList};
 ghost use Rattle.ty_syntax.specs.Error.{refusal_of};
 ghost use Rattle.tinymist_session.specs.Said.{reply_of};
 
 use std::alloc::{AllocError, Global};
 use tinymist_vfs::WorkspaceResolver;
 use ty_path::ImmutPath;
-use ty_syntax::{Bytes, FileError, FileId, Root, Source, VirtualPath};
+use ty_syntax::{Bytes, FileError, FileId, Place, Root, Source, VirtualPath};
 
 /// What a step replies.
 #[derive(Drop)]
@@ -23,8 +23,8 @@ pub enum Reply {
     Contents(Bytes),
     /// The text of a source.
     Text(Source),
-    /// A line, a column in characters, and the same in UTF-16 code units, each from 0.
-    AtPlace(usize, usize, usize),
+    /// The place of an offset.
+    AtPlace(Place),
     /// What is wrong with a file.
     Fails(FileError),
     /// The paths of an overlay, ascending.
@@ -34,7 +34,7 @@ pub enum Reply {
     /// The tag of a new id.
     IdTag(u64),
     /// The path of an id.
-    AtPath(ImmutPath),
+    AtPath(String),
     /// The virtual path of an id that has no path.
     RootlessAt(VirtualPath),
     /// Whether all ids are clean.
@@ -73,9 +73,7 @@ pub fn line_of(alloc: Global, reply: Reply) -> Result<Vec<u8>, AllocError>
         Reply::ViewNumber(number) => format!(in alloc; "view\t{number}\n"),
         Reply::Contents(bytes) => return contents_line(alloc, bytes.as_slice()),
         Reply::Text(source) => return text_line(alloc, source.text()),
-        Reply::AtPlace(line, column, unit) => {
-            format!(in alloc; "at\t{line}\t{column}\t{unit}\n")
-        }
+        Reply::AtPlace(place) => return place_line(alloc, place),
         Reply::Fails(error) => {
             let word = fail_text(&error);
             format!(in alloc; "fail\t{word}\n")
@@ -99,6 +97,19 @@ pub fn line_of(alloc: Global, reply: Reply) -> Result<Vec<u8>, AllocError>
         Reply::BadOffset => String::from_str(alloc, "err\toffset\n"),
     };
     Ok(text?.into_bytes())
+}
+
+/// The line of a place.
+fn place_line(alloc: Global, place: Place) -> Result<Vec<u8>, AllocError>
+    ensures { IfOk result (λ line. line.items ≡ reply_line (AtPlace place)) }
+{
+    let Place {
+        line,
+        column,
+        utf16,
+    } = place;
+    let text = format!(in alloc; "at\t{line}\t{column}\t{utf16}\n")?;
+    Ok(text.into_bytes())
 }
 
 /// The line of a list of paths.

@@ -72,7 +72,7 @@ impl Session {
     fn new(alloc: Global) -> Result<Session, OutOfMemory>
         ensures shown { IfOk result (λ s. IsShown s.machine.live s.machine.views.items s.machine.tags opening) }
         ensures revision { IfOk result (λ s. top_revision s.machine.live s.machine.views.items ≡ 2) }
-        ensures space { IfOk result (λ s. next_number s.machine.tags ≡ 3) }
+        ensures number { IfOk result (λ s. next_number s.machine.tags ≡ 3) }
         ensures held { IfOk result (λ s. held_of s.reader ≡ []) }
     {
         Ok(Session {
@@ -90,7 +90,7 @@ impl Session {
         number: u64,
     ) -> Result<(), SessionFault>
         requires revision { top_revision self.old.machine.live self.old.machine.views.items < 2 ^ 63 }
-        requires space { next_number self.old.machine.tags < 2 ^ 63 }
+        requires number { next_number self.old.machine.tags < 2 ^ 63 }
         ensures reads { TurnReads (command_of (line_of self.old.reader)) number result }
         ensures quiet { command_of (line_of self.old.reader) ≡ None → W.taken sink.new ≡ W.taken sink.old }
         ensures says { (told : Told) (s : State) (command : Command) → M.told disk.old ≡ Some told → IsShown self.old.machine.live self.old.machine.views.items self.old.machine.tags s
@@ -98,7 +98,7 @@ impl Session {
         ensures left { (told : Told) → M.told disk.old ≡ Some told → IsFixed told → M.told disk.new ≡ Some told }
         ensures reader { self.new.reader ≡ self.old.reader }
         ensures revision { top_revision self.new.machine.live self.new.machine.views.items ≤ top_revision self.old.machine.live self.old.machine.views.items + 1 }
-        ensures space { next_number self.new.machine.tags ≤ next_number self.old.machine.tags + 1 }
+        ensures number { next_number self.new.machine.tags ≤ next_number self.old.machine.tags + 1 }
         ensures faults { W.faults sink.old ≤ W.faults sink.new }
         ensures dry { W.dry sink.old ≤ W.dry sink.new }
         ensures cause { IsErrOf result SessionFault.WriteFault → Rose (W.faults sink.old) (W.faults sink.new) ⊎ Rose (W.dry sink.old) (W.dry sink.new) }
@@ -126,7 +126,7 @@ impl Session {
     ) -> Result<bool, SessionFault>
         requires room { n < limits.max_lines }
         requires revision { top_revision self.old.machine.live self.old.machine.views.items < 2 ^ 63 }
-        requires space { next_number self.old.machine.tags < 2 ^ 63 }
+        requires number { next_number self.old.machine.tags < 2 ^ 63 }
         ensures ends { (rest : List ℕ) → ahead self.old.reader (S.left source.old) ≡ Some rest → PassEnds (limits_of limits) n rest (ahead self.new.reader (S.left source.new)) result }
         ensures says { (rest : List ℕ) (told : Told) (s : State) → ahead self.old.reader (S.left source.old) ≡ Some rest → M.told disk.old ≡ Some told → IsShown self.old.machine.live self.old.machine.views.items self.old.machine.tags s
             → PassSays (limits_of limits) told s n rest (ahead self.new.reader (S.left source.new)) (W.taken sink.old) (W.taken sink.new) self.new.machine.live self.new.machine.views.items self.new.machine.tags result }
@@ -136,7 +136,7 @@ impl Session {
         ensures left { (told : Told) → M.told disk.old ≡ Some told → IsFixed told → M.told disk.new ≡ Some told }
         ensures at_end { result ≡ Ok false → IsAtEnd (ahead self.new.reader (S.left source.new)) }
         ensures revision { top_revision self.new.machine.live self.new.machine.views.items ≤ top_revision self.old.machine.live self.old.machine.views.items + 1 }
-        ensures space { next_number self.new.machine.tags ≤ next_number self.old.machine.tags + 1 }
+        ensures number { next_number self.new.machine.tags ≤ next_number self.old.machine.tags + 1 }
         ensures read_cause { HasCause (IsErrOf result SessionFault.ReadFault) (S.faults source.old) (S.faults source.new) }
         ensures faults { W.faults sink.old ≤ W.faults sink.new }
         ensures dry { W.dry sink.old ≤ W.dry sink.new }
@@ -195,7 +195,7 @@ impl Session {
     ) -> Result<(), SessionFault>
         requires shown { IsShown self.old.machine.live self.old.machine.views.items self.old.machine.tags opening }
         requires revision { top_revision self.old.machine.live self.old.machine.views.items ≡ 2 }
-        requires space { next_number self.old.machine.tags ≡ 3 }
+        requires number { next_number self.old.machine.tags ≡ 3 }
         requires held { held_of self.old.reader ≡ [] }
         ensures ends { (input : List ℕ) → S.left source.old ≡ Some input → EndFits (end_of (limits_of limits) input) result }
         ensures written { (input : List ℕ) (told : Told) → S.left source.old ≡ Some input → M.told disk.old ≡ Some told → IsFixed told

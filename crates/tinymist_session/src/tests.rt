@@ -2,6 +2,10 @@
 ghost use Rattle.std.specs.Prelude.{◌≡◌};
 ghost use Rattle.tinymist_session.specs.Memory.{are_positive};
 
+mod clean;
+mod ids;
+mod sources;
+
 use crate::{Limits, MemorySink, MemorySource, SessionFault, run_program, run_session};
 use std::alloc::Global;
 use std::test::Fail;
@@ -120,7 +124,7 @@ fn worked_sessions(rt: HostRuntime) -> Result<(), Fail> {
 // One line each, with the status of a session of that line alone.
 #[test]
 fn edges_of_the_grammar(rt: HostRuntime) -> Result<(), Fail> {
-    let rows: [(&[u8], u8); 60] = [
+    let rows: [(&[u8], u8); 83] = [
         (b"snapshot", 0),
         (b"\n", 3),
         (b"snapshot\r\n", 3),
@@ -181,6 +185,29 @@ fn edges_of_the_grammar(rt: HostRuntime) -> Result<(), Fail> {
         (b"notify\t+/a\t-/a", 3),
         (b"notify\t+/a\t=61\t-/a", 0),
         (b"notify\t+/a/\t=61", 3),
+        (b"map-id\t0\t#1\t=61", 0),
+        (b"map-id\t0\t#01\t=61", 3),
+        (b"map-id\t0\t#\t=61", 3),
+        (b"map-id\t0\t1\t=61", 3),
+        (b"map-id\t0\t/a", 3),
+        (b"unmap-id\t0\t#18446744073709551615", 0),
+        (b"unmap-id\t0\t#18446744073709551616", 3),
+        (b"rootless\t/n", 0),
+        (b"rootless\tn", 3),
+        (b"rootless\t/n/../m", 3),
+        (b"rootless\t#1", 3),
+        (b"ids\t0", 0),
+        (b"ids", 3),
+        (b"path\t0\t#1", 0),
+        (b"path\t0", 3),
+        (b"source\t1\t/a", 0),
+        (b"source\t1\t/a\t", 3),
+        (b"line\t1\t/a\t0", 0),
+        (b"line\t1\t/a\t00", 3),
+        (b"clean\t0\t2", 0),
+        (b"clean\t0", 3),
+        (b"clean\t0\t2\t", 3),
+        (b"clean\t0\t2\t/a\t#1\t/b", 0),
     ];
     for (input, status) in rows {
         let (ended, _sink) = answers(rt.alloc(), input)?;

@@ -1,0 +1,149 @@
+//! What a line asks without an edit: reads of views, lists, places and clean ids.
+ghost use Rattle.std.specs.Prelude.{◌≡◌, ◌++◌, map, take, IfOk, Some};
+ghost use Rattle.std.specs.Option.{option_map};
+ghost use Rattle.ty_model.specs.Disk.{Told, IsFixed};
+ghost use Rattle.tinymist_session.specs.Machine as plain;
+ghost use Rattle.tinymist_session.specs.Reply.{text_reply, line_reply};
+ghost use Rattle.tinymist_session.specs.Said.{reply_of, id_said};
+ghost use Rattle.tinymist_session.specs.Shown.{IsShown};
+
+use crate::content::IdWord;
+use crate::machine::Machine;
+use crate::reply::Reply;
+use crate::space::{clean_since, place_in, place_of, read_of, source_of};
+use ty_cells::PathAccessModel;
+use ty_path::OutOfMemory;
+use ty_syntax::{FileFault, FileId};
+
+impl Machine {
+    /// Reads an id in a view.
+    pub(crate) fn read_view<M: PathAccessModel>(
+        &self,
+        disk: &mut M,
+        view: u64,
+        word: &IdWord,
+    ) -> Result<Reply, OutOfMemory>
+        ensures reply { (told : Told) (s : plain.State) → M.told disk.old ≡ Some told → IsShown self.now.live self.now.views.items self.now.tags s → IfOk result (λ r. reply_of r ≡ (plain.read_step s told view (id_said word.now)).reply) }
+        ensures left { (told : Told) → M.told disk.old ≡ Some told → IsFixed told → M.told disk.new ≡ Some told }
+    {
+        let Some(vfs) = self.view(view) else {
+            return Ok(Reply::BadView);
+        };
+        let Some(id) = self.id_of(word)? else {
+            return Ok(Reply::BadId);
+        };
+        read_of(vfs, disk, &id)
+    }
+
+    /// Reads the source of an id in a view.
+    pub(crate) fn source_in<M: PathAccessModel>(
+        &self,
+        disk: &mut M,
+        view: u64,
+        word: &IdWord,
+    ) -> Result<Reply, OutOfMemory>
+        ensures reply { (told : Told) (s : plain.State) → M.told disk.old ≡ Some told → IsShown self.now.live self.now.views.items self.now.tags s → IfOk result (λ r. reply_of r ≡ (plain.source_step s told view (id_said word.now) text_reply).reply) }
+        ensures left { (told : Told) → M.told disk.old ≡ Some told → IsFixed told → M.told disk.new ≡ Some told }
+    {
+        let Some(vfs) = self.view(view) else {
+            return Ok(Reply::BadView);
+        };
+        let Some(id) = self.id_of(word)? else {
+            return Ok(Reply::BadId);
+        };
+        match source_of(self.alloc, vfs, disk, &id) {
+            Ok(source) => Ok(Reply::Text(source)),
+            Err(FileFault::File(error)) => Ok(Reply::Fails(error)),
+            Err(FileFault::OutOfMemory) => Err(OutOfMemory),
+        }
+    }
+
+    /// Finds the place of an offset in the source of an id in a view.
+    pub(crate) fn line_in<M: PathAccessModel>(
+        &self,
+        disk: &mut M,
+        view: u64,
+        word: &IdWord,
+        offset: u64,
+    ) -> Result<Reply, OutOfMemory>
+        ensures reply { (told : Told) (s : plain.State) → M.told disk.old ≡ Some told → IsShown self.now.live self.now.views.items self.now.tags s → IfOk result (λ r. reply_of r ≡ (plain.source_step s told view (id_said word.now) (line_reply offset)).reply) }
+        ensures left { (told : Told) → M.told disk.old ≡ Some told → IsFixed told → M.told disk.new ≡ Some told }
+    {
+        let Some(vfs) = self.view(view) else {
+            return Ok(Reply::BadView);
+        };
+        let Some(id) = self.id_of(word)? else {
+            return Ok(Reply::BadId);
+        };
+        match source_of(self.alloc, vfs, disk, &id) {
+            Ok(source) => Ok(place_in(source.lines(), offset)),
+            Err(FileFault::File(error)) => Ok(Reply::Fails(error)),
+            Err(FileFault::OutOfMemory) => Err(OutOfMemory),
+        }
+    }
+
+    /// The paths of a target's overlay.
+    pub(crate) fn list_paths(&self, target: u64) -> Result<Reply, OutOfMemory>
+        ensures { (s : plain.State) → IsShown self.now.live self.now.views.items self.now.tags s → IfOk result (λ r. reply_of r ≡ plain.listed plain.path_list (plain.space_at s target)) }
+    {
+        match self.space(target) {
+            Some(vfs) => Ok(Reply::PathList(vfs.shadow_paths()?)),
+            None => Ok(Reply::BadView),
+        }
+    }
+
+    /// The ids of a target's overlay.
+    pub(crate) fn list_ids(&self, target: u64) -> Result<Reply, OutOfMemory>
+        ensures { (s : plain.State) → IsShown self.now.live self.now.views.items self.now.tags s → IfOk result (λ r. reply_of r ≡ plain.listed plain.id_list (plain.space_at s target)) }
+    {
+        match self.space(target) {
+            Some(vfs) => Ok(Reply::IdList(vfs.shadow_ids()?)),
+            None => Ok(Reply::BadView),
+        }
+    }
+
+    /// Finds where an id stands in a target.
+    pub(crate) fn path_in(&self, target: u64, word: &IdWord) -> Result<Reply, OutOfMemory>
+        ensures { (s : plain.State) → IsShown self.now.live self.now.views.items self.now.tags s → IfOk result (λ r. reply_of r ≡ (plain.path_step s target (id_said word.now)).reply) }
+    {
+        let Some(vfs) = self.space(target) else {
+            return Ok(Reply::BadView);
+        };
+        match self.id_of(word)? {
+            Some(id) => place_of(vfs, &id),
+            None => Ok(Reply::BadId),
+        }
+    }
+
+    /// Whether ids of a target are clean since a revision.
+    pub(crate) fn clean_in(
+        &self,
+        target: u64,
+        revision: u64,
+        words: &[IdWord],
+    ) -> Result<Reply, OutOfMemory>
+        ensures { (s : plain.State) → IsShown self.now.live self.now.views.items self.now.tags s → IfOk result (λ r. reply_of r ≡ (plain.clean_step s target revision (map id_said words.now)).reply) }
+    {
+        let Some(vfs) = self.space(target) else {
+            return Ok(Reply::BadView);
+        };
+        match self.ids_of(words)? {
+            Some(ids) => clean_since(vfs, revision, &ids),
+            None => Ok(Reply::BadId),
+        }
+    }
+
+    /// The ids of words, where each names one.
+    fn ids_of(&self, words: &[IdWord]) -> Result<Option<Vec<FileId>>, OutOfMemory>
+        ensures { IfOk result (λ ids. option_map (λ found. found.items) ids ≡ plain.ids_for self.now.tags.ids.items (map id_said words.now)) }
+    {
+        let mut ids = Vec::new(self.alloc);
+        for word in words {
+            let Some(id) = self.id_of(word)? else {
+                return Ok(None);
+            };
+            ids.push(id)?;
+        }
+        Ok(Some(ids))
+    }
+}

@@ -1,0 +1,200 @@
+//! One space: its edits, its snapshots, and what is asked of it.
+ghost use Rattle.std.specs.Prelude.{◌≡◌, ◌+◌, ◌-◌, ◌^◌, ◌<◌, ◌++◌, ◌∷◌, [], List, IfOk, OnOk, OnErr, Some, Err};
+ghost use Rattle.ty_model.specs.Disk.{Told, IsFixed};
+ghost use Rattle.ty_model.specs.LookUp.{look};
+ghost use Rattle.ty_model.specs.Places.{place_of};
+ghost use Rattle.ty_model.specs.Held.{Standing};
+ghost use Rattle.ty_model.specs.Space as model;
+ghost use Rattle.ty_model.specs.Space.{Space};
+ghost use Rattle.ty_model.specs.Standing.{are_clean};
+ghost use Rattle.ty_model.specs.Version.{Version};
+ghost use Rattle.ty_syntax.specs.Lines.{place};
+ghost use Rattle.tinymist_vfs.specs.Commits.{committed};
+ghost use Rattle.tinymist_vfs.specs.Items.{items_of};
+ghost use Rattle.tinymist_session.specs.Machine.{source_at, clean_reply};
+ghost use Rattle.tinymist_session.specs.Reply.{reply_to, place_reply, at_reply};
+ghost use Rattle.tinymist_session.specs.Said.{reply_of, edit_said, GivesSource};
+ghost use Rattle.tinymist_session.specs.Shown.{Shows, shown, known};
+
+use crate::edit::Edit;
+use crate::reply::Reply;
+use std::alloc::Global;
+use std::marker::Brand;
+use std::sync::ledger::{Blank, Ledger};
+use tinymist_vfs::{MockRootResolver, PathResolution, ReviseFault, RevisingVfs, Vfs};
+use ty_cells::{OwnCells, PathAccessModel};
+use ty_path::{OutOfMemory, Share};
+use ty_persist::Steps;
+use ty_syntax::{FileFault, FileId, FileResult, Lines, Source, TagFault, Tags, detached_entry};
+
+/// Edits a space below the last revision.
+pub(crate) fn edit_space(vfs: &mut Vfs<MockRootResolver>, edit: Edit) -> Result<u64, OutOfMemory>
+    requires { vfs.old.held.revision < 2 ^ 64 - 1 }
+    ensures ok { IfOk result (λ n. (vfs.new ≡ committed vfs.old (edit_said edit ∷ [])) × (n ≡ vfs.new.held.revision)) }
+    ensures err { OnErr result (vfs.new ≡ vfs.old) }
+{
+    match commit(vfs, edit) {
+        Ok(revision) => Ok(revision),
+        Err(ReviseFault::Full) => unreachable!(),
+        Err(ReviseFault::OutOfMemory) => Err(OutOfMemory),
+    }
+}
+
+/// Commits an edit in a batch of its own.
+fn commit(vfs: &mut Vfs<MockRootResolver>, edit: Edit) -> Result<u64, ReviseFault>
+    ensures ok { IfOk result (λ n. (vfs.new ≡ committed vfs.old (edit_said edit ∷ [])) × (n ≡ vfs.new.held.revision)) }
+    ensures err { OnErr result (vfs.new ≡ vfs.old) }
+    ensures full { result ≡ Err ReviseFault.Full → vfs.old.held.revision ≡ 2 ^ 64 - 1 }
+{
+    let mut batch = vfs.revise()?;
+    gather(&mut batch, edit)?;
+    batch.finish()
+}
+
+/// Gathers an edit.
+fn gather(batch: &mut RevisingVfs<'_, MockRootResolver>, edit: Edit) -> Result<(), OutOfMemory>
+    ensures same { batch.new.holder.ghost_name ≡ batch.old.holder.ghost_name }
+    ensures now { batch.new.holder.now ≡ batch.old.holder.now }
+    ensures view { batch.new.changes_view ≡ batch.old.changes_view }
+    ensures ok { OnOk result (items_of batch.new.batch.items ≡ items_of batch.old.batch.items ++ edit_said edit ∷ []) }
+    ensures err { OnErr result (batch.new.batch.items ≡ batch.old.batch.items) }
+{
+    match edit {
+        Edit::MapPath(path, answer) => batch.map_shadow(path.as_str(), answer),
+        Edit::UnmapPath(path) => batch.unmap_shadow(path.as_str()),
+        Edit::MapId(id, answer) => batch.map_shadow_by_id(&id, answer),
+        Edit::UnmapId(id) => batch.remove_shadow_by_id(&id),
+        Edit::Clear => batch.reset_shadow(),
+        Edit::Notify(changes) => batch.notify_fs_changes(changes.set),
+    }
+}
+
+/// A copy under a fresh space number.
+pub(crate) fn snapshot_of(
+    live: &Vfs<MockRootResolver>,
+    tags: &mut Tags,
+) -> Result<Vfs<MockRootResolver>, TagFault>
+    ensures revision { IfOk result (λ v. v.held.revision ≡ live.now.held.revision) }
+    ensures shows { (space : Space) → Shows live.now space → IfOk result (λ v. Shows v (model.snapshot_of tags.old.next_space space)) }
+    ensures tags { OnOk result (tags.new ≡ record tags.old { next_space = tags.old.next_space + 1 }) }
+    ensures err { OnErr result (tags.new ≡ tags.old) }
+    ensures full { result ≡ Err TagFault.Full → tags.old.next_space ≡ 2 ^ 64 - 1 }
+{
+    snapshot_counted::<Brand>(live, tags, Blank::new(1))
+}
+
+/// The same, with a count of steps that nobody reads.
+fn snapshot_counted<L: Ledger>(
+    live: &Vfs<MockRootResolver>,
+    tags: &mut Tags,
+    blank: Blank,
+) -> Result<Vfs<MockRootResolver>, TagFault>
+    requires name { blank.name ≡ L.name }
+    requires parts { blank.parts ≡ L.parts }
+    requires some { 0 < L.parts }
+    ensures revision { IfOk result (λ v. v.held.revision ≡ live.now.held.revision) }
+    ensures shows { (space : Space) → Shows live.now space → IfOk result (λ v. Shows v (model.snapshot_of tags.old.next_space space)) }
+    ensures tags { OnOk result (tags.new ≡ record tags.old { next_space = tags.old.next_space + 1 }) }
+    ensures err { OnErr result (tags.new ≡ tags.old) }
+    ensures full { result ≡ Err TagFault.Full → tags.old.next_space ≡ 2 ^ 64 - 1 }
+{
+    let mut steps: Steps<L> = Steps::new(blank);
+    live.snapshot(tags, &mut steps)
+}
+
+/// Reads an id in a version, over the disk.
+#[tactic(auto, using(crate::proofs::Fixed::reads_fixed))]
+pub(crate) fn read_of<M: PathAccessModel>(
+    vfs: &Vfs<MockRootResolver>,
+    disk: &mut M,
+    id: &FileId,
+) -> Result<Reply, OutOfMemory>
+    ensures reply { (told : Told) → M.told disk.old ≡ Some told → IfOk result (λ r. reply_of r ≡ reply_to (look (shown vfs.now).1 told id.now)) }
+    ensures left { (told : Told) → M.told disk.old ≡ Some told → IsFixed told → M.told disk.new ≡ Some told }
+{
+    let mut cells = OwnCells::new(disk);
+    match vfs.read(&mut cells, id) {
+        Ok(bytes) => Ok(Reply::Contents(bytes)),
+        Err(FileFault::File(error)) => Ok(Reply::Fails(error)),
+        Err(FileFault::OutOfMemory) => Err(OutOfMemory),
+    }
+}
+
+/// The source of an id in a version, over the disk. That of the detached entry is empty, and asks for nothing.
+pub(crate) fn source_of<M: PathAccessModel>(
+    alloc: Global,
+    vfs: &Vfs<MockRootResolver>,
+    disk: &mut M,
+    id: &FileId,
+) -> FileResult<Source>
+    ensures answer { (told : Told) → M.told disk.old ≡ Some told → GivesSource (source_at (shown vfs.now).1 told id.now) result }
+    ensures left { (told : Told) → M.told disk.old ≡ Some told → IsFixed told → M.told disk.new ≡ Some told }
+{
+    if *id == detached_entry(alloc)? {
+        return Ok(Source::new(alloc, id.share(alloc)?, String::new(alloc))?);
+    }
+    let mut cells = OwnCells::new(disk);
+    vfs.source(&mut cells, id)
+}
+
+/// The place of an offset.
+pub(crate) fn place_in(lines: &Lines, offset: u64) -> Reply
+    ensures { reply_of result ≡ at_reply (place lines.now offset) }
+{
+    match lines.byte_to_place(offset as usize) {
+        Some(place) => Reply::AtPlace(place),
+        None => Reply::BadOffset,
+    }
+}
+
+/// Where an id stands.
+pub(crate) fn place_of(vfs: &Vfs<MockRootResolver>, id: &FileId) -> Result<Reply, OutOfMemory>
+    ensures { IfOk result (λ r. reply_of r ≡ place_reply id.now (place_of (shown vfs.now).1.resolver id.now)) }
+{
+    match vfs.file_path(id) {
+        Ok(PathResolution::Resolved(path)) => Ok(Reply::AtPath(path)),
+        Ok(PathResolution::Rootless(vpath)) => Ok(Reply::RootlessAt(vpath)),
+        Err(FileFault::File(error)) => Ok(Reply::Fails(error)),
+        Err(FileFault::OutOfMemory) => Err(OutOfMemory),
+    }
+}
+
+/// Whether ids are clean since a revision that the space had.
+pub(crate) fn clean_since(
+    vfs: &Vfs<MockRootResolver>,
+    revision: u64,
+    ids: &[FileId],
+) -> Result<Reply, OutOfMemory>
+    ensures { (space : Space) → Shows vfs.now space → IfOk result (λ r. reply_of r ≡ clean_reply space revision ids.now) }
+{
+    if revision < 2 || revision > vfs.revision() {
+        return Ok(Reply::BadRevision);
+    }
+    match are_clean(vfs, revision, ids) {
+        Ok(clean) => Ok(Reply::IsClean(clean)),
+        Err(_) => Err(OutOfMemory),
+    }
+}
+
+/// Whether ids are clean since a revision.
+fn are_clean(vfs: &Vfs<MockRootResolver>, revision: u64, ids: &[FileId]) -> FileResult<bool>
+    ensures { (past : List Version) → Standing known vfs.now past → IfOk result (λ b. b ≡ are_clean ((shown vfs.now).1 ∷ past) revision ids.now) }
+{
+    are_clean_counted::<Brand>(vfs, revision, ids, Blank::new(1))
+}
+
+/// The same, with a count of look-ups that nobody reads.
+fn are_clean_counted<L: Ledger>(
+    vfs: &Vfs<MockRootResolver>,
+    revision: u64,
+    ids: &[FileId],
+    blank: Blank,
+) -> FileResult<bool>
+    requires name { blank.name ≡ L.name }
+    requires parts { blank.parts ≡ L.parts }
+    requires some { 0 < L.parts }
+    ensures { (past : List Version) → Standing known vfs.now past → IfOk result (λ b. b ≡ are_clean ((shown vfs.now).1 ∷ past) revision ids.now) }
+{
+    let mut steps: Steps<L> = Steps::new(blank);
+    vfs.is_clean_compile(revision, ids, &mut steps)
+}
