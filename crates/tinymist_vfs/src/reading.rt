@@ -111,6 +111,13 @@ impl<R: RootResolver> Vfs<R> {
 fn source_with(alloc: Global, id: &FileId, bytes: &Bytes) -> FileResult<Source>
     ensures { SourcesAs (Content bytes.now) id.now result }
 {
-    let text = String::from_str(alloc, text_of(bytes.as_slice())?)?;
-    Ok(Source::new(alloc, id.share(alloc)?, text)?)
+    let text = text_of(bytes.as_slice())?;
+    Ok(source_of_text(alloc, id, text)?)
+}
+
+fn source_of_text(alloc: Global, id: &FileId, text: &str) -> Result<Source, OutOfMemory>
+    ensures { IfOk result (λ source. source ≡ record { id = id.now; text = text.now }) }
+{
+    let text = String::from_str(alloc, text)?;
+    Source::new(alloc, id.share(alloc)?, text)
 }
