@@ -1,5 +1,5 @@
 -- What is found of an id over a disk that is told.
-use Rattle.std.proofs.Common.{◌≡◌, ℕ, List, ap, subst, sym, ◌∙◌, Option, Some, None, option_map, Result, Ok, Err, ◌⊎◌, inl, inr, refl}
+use Rattle.std.proofs.Common.{◌≡◌, ℕ, List, ap, subst, sym, Option, Some, None, Result, Ok, Err, inl, inr, refl}
 use Rattle.ty_model.specs.Values.{Answer, Content, Refused, Refusal}
 use Rattle.ty_model.specs.Disk.{Told, answer_of, after_ask}
 use Rattle.ty_path.specs.Shared.{path_text}

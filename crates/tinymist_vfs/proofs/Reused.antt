@@ -79,6 +79,7 @@ all_true test (id ∷ ids) is =
     let p = and_parts (test id) (list_all test ids) is in
     All-cons (λ (x : Id). test x ≡ true) id ids p.0 (all_true test ids p.1)
 
+-- ids that are clean have the same answers and sources in all versions since
 pub same_answers : (versions : List Version) (r : ℕ) (disk : Told) (ids : List Id) → AllAgree versions → are_clean versions r ids ≡ true → SameAnswers versions r disk ids
 same_answers versions r disk ids agree clean id v w has has_v has_w =
     let here : is_clean versions r id ≡ true = All-contains (λ (x : Id). is_clean versions r x ≡ true) ids id (all_true (is_clean versions r) ids clean) has in

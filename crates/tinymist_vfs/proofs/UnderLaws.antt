@@ -1,21 +1,21 @@
 -- A disk under some files that come first.
-use Rattle.std.proofs.Common.{◌≡◌, ℕ, Bool, true, false, cond, not, true≢false, List, [], ◌∷◌, ◌++◌, map, filter, refl, sym, ap, subst, ◌∙◌, bytes_eq, Option, Some, None, option_map, Result, Ok, Err}
-use Rattle.std.specs.Prelude.{IsTrue, ◌↔◌, is_some, IfOk}
+use Rattle.std.proofs.Common.{◌≡◌, ℕ, Bool, true, false, cond, not, List, [], ◌∷◌, ◌++◌, map, filter, refl, sym, ap, subst, ◌∙◌, bytes_eq, Option, Some, None, Result, Ok, Err}
+use Rattle.std.specs.Prelude.{is_some, IfOk}
 use Rattle.std.specs.Ordering.{is_eq}
 use Rattle.std.specs.Cmp.{eq_by_cmp_equiv, Equal-is}
 use Rattle.std.specs.Map.{lookup}
 use Rattle.std.proofs.lemmas.Bool.{both_ways}
 use Rattle.std.proofs.lemmas.Slice.Eq.{bytes_eq-Decides}
 use Rattle.ty_model.specs.Values.{Answer, text_cmp, same_answer}
-use Rattle.ty_model.specs.Disk.{Told, Rest, rest_says, says, head_or, after_head, asked_files, answer_of, after_ask}
+use Rattle.ty_model.specs.Disk.{Told, Rest, rest_says, says, head_or, after_head, asked_files}
 use Rattle.ty_model.proofs.Tests.{text_total, text_exact, same_answer-Decides}
 use Rattle.ty_path.specs.Shared.{path_text}
 use Rattle.ty_path.specs.declared.memory.OutOfMemory.{OutOfMemory}
 use Rattle.ty_persist.specs.Texts.{is_text}
-use Rattle.ty_cells.specs.Disk.{AnswersAsTold, HoldsAsTold, answers_in, answers_at}
+use Rattle.ty_cells.specs.Disk.{AnswersAsTold, HoldsAsTold, answers_in}
 use Rattle.tinymist_vfs.specs.Maps.{Path}
 use Rattle.tinymist_vfs.specs.Items.{file_of}
-use Rattle.tinymist_vfs.specs.Under.{file_at, one_answer, has_none, told_under, tells_under}
+use Rattle.tinymist_vfs.specs.Under.{file_at, one_answer, has_none, tells_under}
 
 -- ---- a file by its text
 

@@ -1,6 +1,5 @@
 -- A change set and the events that carry one, as plain data.
-use Rattle.std.specs.Prelude.{ℕ, Bool, true, false, List, [], map, Option, Some, None, Vec}
-use Rattle.std.specs.Option.{option_to_list}
+use Rattle.std.specs.Prelude.{ℕ, Bool, false, List, [], map, Option, Some, None, Vec}
 use Rattle.std.specs.declared.alloc.Global.{Global}
 use Rattle.ty_model.specs.Values.{Answer}
 use Rattle.ty_path.specs.Shared.{path_text}

@@ -7,6 +7,7 @@ ghost use Rattle.ty_model.specs.Standing.{clean_by, path_by, are_clean};
 ghost use Rattle.ty_model.specs.Places.{place_of};
 ghost use Rattle.ty_model.specs.Held.{version_of, Standing};
 ghost use Rattle.ty_model.specs.Disk.{Told};
+ghost use Rattle.ty_syntax.specs.declared.error.FileFault.TheVariants.{OutOfMemory as no_memory};
 ghost use Rattle.tinymist_vfs.specs.Reuse.{SameAnswers};
 
 use crate::resolver::{PathResolution, RootResolver};
@@ -26,6 +27,7 @@ impl<R: RootResolver> Vfs<R> {
         steps: &mut Steps<L>,
     ) -> FileResult<bool>
         ensures clean { IfOk result (λ b. b ≡ path_by self.now.held.changes rev (place_of (R.known self.now.resolver) id.now)) }
+        ensures memory { IfErr result (λ fault. fault ≡ no_memory) }
         ensures cost { steps.new ≤ steps.old + 1 }
     {
         match self.resolver.path_for_id(self.alloc, id) {
@@ -46,6 +48,7 @@ impl<R: RootResolver> Vfs<R> {
         steps: &mut Steps<L>,
     ) -> FileResult<bool>
         ensures clean { IfOk result (λ b. b ≡ clean_by self.now.held.changes (R.known self.now.resolver) rev id.now) }
+        ensures memory { IfErr result (λ fault. fault ≡ no_memory) }
         ensures cost { steps.new ≤ steps.old + 2 }
     {
         if self.changes.reset() > rev {
@@ -65,6 +68,7 @@ impl<R: RootResolver> Vfs<R> {
         steps: &mut Steps<L>,
     ) -> FileResult<bool>
         ensures clean { IfOk result (λ b. b ≡ list_all (clean_by self.now.held.changes (R.known self.now.resolver) rev) ids.now) }
+        ensures memory { IfErr result (λ fault. fault ≡ no_memory) }
         ensures cost { steps.new ≤ steps.old + 2 * length ids.now }
     {
         for id in ids {
@@ -79,6 +83,10 @@ impl<R: RootResolver> Vfs<R> {
     /// in any version since. An id without a path, or whose package is refused, is clean where its overlay is.
     /// Where all are clean, what was read of them in one version since, over a disk that stays the same, is what
     /// is read in every other: their answers and sources are the same.
+    ///
+    /// # Errors
+    ///
+    /// Only want of memory.
     pub fn is_clean_compile<L: Ledger>(
         &self,
         rev: u64,
@@ -87,6 +95,7 @@ impl<R: RootResolver> Vfs<R> {
     ) -> FileResult<bool>
         ensures clean { (past : List plain.Version) → Standing R.known self.now past → IfOk result (λ b. b ≡ are_clean (version_of R.known self.now ∷ past) rev ids.now) }
         ensures reusable { (past : List plain.Version) (disk : Told) → Standing R.known self.now past → IfOk result (λ b. IsTrue b → SameAnswers (version_of R.known self.now ∷ past) rev disk ids.now) }
+        ensures memory { IfErr result (λ fault. fault ≡ no_memory) }
         ensures cost { steps.new ≤ steps.old + 4 * length ids.now }
     {
         self.are_ids_clean(rev, ids, steps)

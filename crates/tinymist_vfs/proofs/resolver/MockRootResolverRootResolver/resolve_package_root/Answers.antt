@@ -1,6 +1,6 @@
-use Rattle.std.proofs.Common.{◌≡◌, Err, sym, ap, ◌∙◌}
+use Rattle.std.proofs.Common.{Err, sym, ap, ◌∙◌}
 use Rattle.std.specs.FinMap as map
-use Rattle.ty_model.specs.Values.{Spec, spec_cmp, Refusal, OfPackage, NoPackage}
+use Rattle.ty_model.specs.Values.{Spec, spec_cmp, OfPackage, NoPackage}
 use Rattle.ty_model.specs.Places.{listed_root}
 use Rattle.ty_syntax.specs.Spec.{spec_of}
 use Rattle.tinymist_vfs.proofs.resolver.MockRootResolverRootResolver.resolve_package_root.Goals as goal
