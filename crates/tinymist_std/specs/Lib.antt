@@ -14,4 +14,5 @@ pub mod Date
 pub mod FingerprintMap
 pub mod FxDashMap
 pub mod Paths
+pub mod PathAncestors
 pub mod FileLock

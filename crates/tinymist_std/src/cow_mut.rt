@@ -1,6 +1,8 @@
 //! A value that is owned or lent to be written.
-ghost use Rattle.std.specs.Prelude.{◌≡◌};
-ghost use Rattle.tinymist_std.specs.CowMut.{cow_value};
+ghost use Rattle.std.specs.Prelude.{◌≡◌, []};
+ghost use Rattle.std.specs.Borrow.{Lends, sem};
+ghost use mir.Syntax.{named};
+ghost use Rattle.tinymist_std.specs.CowMut.{cow_value, cow_with};
 
 /// An owned value, or one that is lent to be written.
 #[derive(Drop)]
@@ -10,6 +12,8 @@ pub enum CowMut<'a, T> {
 }
 
 impl<'a, T> CowMut<'a, T> {
+    ghost use Rattle.tinymist_std.specs.contracts.cow_mut.CowMut.{the_row as cow_row};
+
     /// The value within.
     pub fn get(&self) -> &T
         ensures { result.now ≡ cow_value self.now }
@@ -20,9 +24,11 @@ impl<'a, T> CowMut<'a, T> {
         }
     }
 
-    /// The value within, to be written.
+    /// The value within, to be written. What is written is within afterwards.
     pub fn get_mut(&mut self) -> &mut T
-        ensures { result.now ≡ cow_value self.old }
+        ensures* writes_back { sem 𝓛 (Lends (cow_row (record { mir = named 1; lft = [] }) T.row) T.row
+            self.entry result (cow_with self.old)) }
+        ensures value { result.now ≡ cow_value self.old }
     {
         match self {
             CowMut::Owned(value) => value,

@@ -1,18 +1,19 @@
 //! Files and folders of the system by their paths, with errors that name the call and the path.
 //!
 //! What a file holds is not proved: these are thin edges over the library's files.
-ghost use Rattle.std.specs.Prelude.{◌≡◌, Ok, IsOkAnd, IfOk, IfErr, MatchResult, codes, string_bytes};
+ghost use Rattle.std.specs.Prelude.{◌≡◌, false, Some, Ok, IsOkAnd, IfOk, IfErr, MatchResult, codes, string_bytes};
+ghost use Rattle.std.specs.Option.{option_copied};
 ghost use Rattle.std.specs.Str.{IsUtf8};
 ghost use Rattle.tinymist_std.specs.Context.{UnlessMemory};
-ghost use Rattle.tinymist_std.specs.Paths.{IsFileFault};
+ghost use Rattle.tinymist_std.specs.PathAncestors.{path_next, path_stop};
+ghost use Rattle.tinymist_std.specs.Paths.{IsFileFault, IsJoinFault, any_has_colon, joined_paths};
 
 use crate::error::{ErrKind, Error, Result};
 use crate::error_args::ErrorArgs;
 use crate::path_ancestors::PathAncestors;
-use std::alloc::{AllocError, Global};
-use std::env::JoinPathsError;
+use std::alloc::Global;
+use std::io;
 use std::io::ErrorKind;
-use std::{env, io};
 
 mod folders;
 mod reading;
@@ -25,22 +26,29 @@ pub use writing::{append, copy, create, write, write_atomic, write_if_changed};
 /// The paths as one text for an environment variable, with `:` between. The error, which names the
 /// variable, comes where a path has a `:`.
 pub fn join_paths<R>(_rt: &R, alloc: Global, paths: &[String], env: &str) -> Result<String>
-    ensures { IfErr result (λ e. e.place ≡ codes "join_paths") }
+    ensures joined { IfOk result (λ text. string_bytes text ≡ joined_paths paths.now) }
+    ensures apart { IfOk result (λ _. any_has_colon paths.now ≡ false) }
+    ensures refused { IfErr result (IsJoinFault env.now paths.now) }
 {
-    let joined: Result<Result<String, JoinPathsError>, AllocError> = env::join_paths(
-        alloc,
-        paths.iter(),
-    );
-    match joined {
-        Ok(Ok(joined)) => Ok(joined),
-        Ok(Err(cause)) => Err(
+    if any_has_colon(paths) {
+        return Err(
             ErrorArgs::new(alloc)
                 .with(alloc, "env", &env)
-                .with(alloc, "error", &cause)
+                .with(alloc, "error", &"path segment contains separator `:`")
                 .error("join_paths"),
-        ),
+        );
+    }
+    match paths.join(alloc, ":") {
+        Ok(joined) => Ok(joined),
         Err(_) => Err(Error::new("join_paths", ErrKind::OutOfMemory, None)),
     }
+}
+
+// Whether a path has a `:`.
+fn any_has_colon(paths: &[String]) -> bool
+    ensures { result ≡ any_has_colon paths.now }
+{
+    paths.iter().any(|path| path.as_bytes().contains(&b':'))
 }
 
 /// The bytes of a path.
@@ -66,7 +74,10 @@ pub fn bytes2path<R>(_rt: &R, alloc: Global, bytes: &[u8]) -> Result<String>
 }
 
 /// The path and then its parents, up to `stop` where it is one of them, and else to the end.
-pub fn ancestors<'p>(path: &'p str, stop: Option<&'p str>) -> PathAncestors<'p> {
+pub fn ancestors<'p>(path: &'p str, stop: Option<&'p str>) -> PathAncestors<'p>
+    ensures first { path_next result ≡ Some path.now }
+    ensures stop { path_stop result ≡ option_copied stop.entry }
+{
     PathAncestors::new(path, stop)
 }
 

@@ -42,7 +42,9 @@ fn values_are_taken_and_lent(rt: HostRuntime) -> Result<(), Fail> {
     assert_eq!(rt; other.take()?, 7);
     assert_eq!(rt; shared.take()?, 7);
     let mut number = 3u8;
-    assert_eq!(rt; *CowMut::Borrowed(&mut number).get(), 3);
+    let mut lent = CowMut::Borrowed(&mut number);
+    *lent.get_mut() += 1;
+    assert_eq!(rt; *lent.get(), 4);
     let mut owned = CowMut::Owned(4u8);
     *owned.get_mut() += 1;
     assert_eq!(rt; *owned.get(), 5);
