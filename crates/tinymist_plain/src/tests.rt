@@ -1,4 +1,8 @@
 //! Worked sessions and short inputs at the edges: the plain program and the real one answer each of them alike.
+mod cleans;
+mod mixed;
+mod worked;
+
 use super::*;
 use std::alloc::Global;
 use std::process::Abort;
@@ -52,6 +56,25 @@ fn compare<M: PathAccessModel>(
     assert_eq!(rt; sink.bytes(), replies.as_bytes(), "real: {input:?}");
     assert_eq!(rt; plain.end, end, "plain: {input:?}");
     assert_eq!(rt; end_of(answer), Some(end), "real: {input:?}");
+    Ok(())
+}
+
+/// Runs both programs over an input of good lines and a disk that stays as it is, and compares what they answer.
+fn alike<M: PathAccessModel>(
+    rt: &(impl Abort + AllocGlobal),
+    input: &[u8],
+    disk: &mut M,
+) -> Result<(), Fail> {
+    let alloc = rt.alloc();
+    let limits = DEFAULT_LIMITS;
+    let plain = plain_session(alloc, input, &limits, disk)?;
+    let mut source = MemorySource::new(input.to_vec(alloc)?, Vec::new(alloc), Vec::new(alloc));
+    let mut sink = MemorySink::new(Vec::new(alloc), Vec::new(alloc), Vec::new(alloc));
+    let answer = run_session(alloc, &mut source, &mut sink, disk, limits);
+    assert_eq!(rt; plain.end, End::Whole, "plain: {input:?}");
+    assert_eq!(rt; end_of(answer), Some(plain.end), "real: {input:?}");
+    assert!(rt; !plain.replies.is_empty(), "{input:?}");
+    assert_eq!(rt; sink.bytes(), plain.replies.as_slice(), "{input:?}");
     Ok(())
 }
 
