@@ -3,6 +3,7 @@ pub mod Items
 pub mod Commits
 pub mod RootResolver
 pub mod Reading
+pub mod Reuse
 pub mod ChangeSet
 pub mod Workspace
 pub mod Under

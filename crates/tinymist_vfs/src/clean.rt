@@ -1,11 +1,13 @@
 //! Which ids are clean, and resets.
-ghost use Rattle.std.specs.Prelude.{◌≡◌, ◌+◌, ◌*◌, ◌-◌, ◌^◌, ◌≤◌, ◌∷◌, ◌↔◌, List, length, IfOk, IfErr, OnOk, OnErr, IsErr, IsErrOf};
+ghost use Rattle.std.specs.Prelude.{◌≡◌, ◌+◌, ◌*◌, ◌-◌, ◌^◌, ◌≤◌, ◌∷◌, ◌↔◌, List, length, IfOk, IfErr, OnOk, OnErr, IsErr, IsErrOf, IsTrue};
 ghost use Rattle.std.specs.List.{list_all};
 ghost use Rattle.ty_model.specs.Version as plain;
 ghost use Rattle.ty_model.specs.Batch as change;
 ghost use Rattle.ty_model.specs.Standing.{clean_by, path_by, are_clean};
 ghost use Rattle.ty_model.specs.Places.{place_of};
 ghost use Rattle.ty_model.specs.Held.{version_of, Standing};
+ghost use Rattle.ty_model.specs.Disk.{Told};
+ghost use Rattle.tinymist_vfs.specs.Reuse.{SameAnswers};
 
 use crate::resolver::{PathResolution, RootResolver};
 use crate::revise::ReviseFault;
@@ -75,6 +77,8 @@ impl<R: RootResolver> Vfs<R> {
 
     /// Whether each of these ids is clean since a revision: nothing that its reading depends on has differed
     /// in any version since. An id without a path, or whose package is refused, is clean where its overlay is.
+    /// Where all are clean, what was read of them in one version since, over a disk that stays the same, is what
+    /// is read in every other: their answers and sources are the same.
     pub fn is_clean_compile<L: Ledger>(
         &self,
         rev: u64,
@@ -82,6 +86,7 @@ impl<R: RootResolver> Vfs<R> {
         steps: &mut Steps<L>,
     ) -> FileResult<bool>
         ensures clean { (past : List plain.Version) → Standing R.known self.now past → IfOk result (λ b. b ≡ are_clean (version_of R.known self.now ∷ past) rev ids.now) }
+        ensures reusable { (past : List plain.Version) (disk : Told) → Standing R.known self.now past → IfOk result (λ b. IsTrue b → SameAnswers (version_of R.known self.now ∷ past) rev disk ids.now) }
         ensures cost { steps.new ≤ steps.old + 4 * length ids.now }
     {
         self.are_ids_clean(rev, ids, steps)

@@ -1,5 +1,6 @@
 //! Worked batches and their revisions.
 
+mod sources;
 mod versions;
 
 use super::*;

@@ -1,5 +1,9 @@
 use Rattle.tinymist_vfs.proofs.Stood.{clean_stood}
+use Rattle.tinymist_vfs.proofs.Reused.{reused}
 use Rattle.tinymist_vfs.proofs.vfs.Vfs.is_clean_compile.Goals as goal
 
 pub returns-clause-clean : goal.returns-clause-clean
 returns-clause-clean g c = λ past s. clean_stood g.R.RootResolver.known c.args.self.now past s c.args.rev c.args.ids.now c.are_ids_clean.result c.are_ids_clean.ensures.clean
+
+pub returns-clause-reusable : goal.returns-clause-reusable
+returns-clause-reusable g c = λ past disk s. reused g.R.RootResolver.known c.args.self.now past s c.args.rev c.args.ids.now disk c.are_ids_clean.result c.are_ids_clean.ensures.clean
