@@ -2,7 +2,6 @@
 //! definition, so that what it answers can be held against any other body.
 #![tactic(auto)]
 
-mod compare;
 mod content;
 mod entries;
 mod ids;
@@ -10,6 +9,7 @@ mod lines;
 mod place;
 mod questions;
 mod rows;
+mod same;
 mod session;
 mod source;
 mod space;

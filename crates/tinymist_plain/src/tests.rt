@@ -246,7 +246,7 @@ fn edits_of_all_kinds(rt: HostRuntime) -> Result<(), Fail> {
 // Each is no sentence: a first line is answered, and the last one never is.
 #[test]
 fn lines_that_are_no_sentence(rt: HostRuntime) -> Result<(), Fail> {
-    let rows: [&[u8]; 52] = [
+    let rows: [&[u8]; 70] = [
         b"\n",
         b"snapshot\r\n",
         b"snapshot\x00\n",
@@ -299,6 +299,24 @@ fn lines_that_are_no_sentence(rt: HostRuntime) -> Result<(), Fail> {
         b"map\t0\t/a\t!\n",
         b"map\t0\t/a\t!found\n",
         b"map\t0\t/a\t!Other\n",
+        b"map-id\t0\t/a\n",
+        b"map-id\t0\ta\t=61\n",
+        b"map-id\t0\t#01\t=61\n",
+        b"map-id\t0\t#1\t61\n",
+        b"unmap-id\t0\n",
+        b"unmap-id\t0\t#\n",
+        b"rootless\n",
+        b"rootless\ta\n",
+        b"rootless\t/a/../b\n",
+        b"ids\n",
+        b"ids\t0\t/a\n",
+        b"path\t0\t#x\n",
+        b"source\t1\t/a\t\n",
+        b"line\t1\t/a\n",
+        b"line\t1\t/a\t-1\n",
+        b"clean\t0\n",
+        b"clean\t0\t02\n",
+        b"clean\t0\t2\t/a\t\n",
     ];
     let alloc = rt.alloc();
     let mut disk = disk_of(alloc, None)?;

@@ -16,12 +16,12 @@ ghost use Rattle.tinymist_plain.specs.Lists.{pairs, id_pairs, put_all, without_a
 ghost use Rattle.tinymist_plain.specs.Kept.{layers_of, version_of, lists_of, listed, said_at, said_in, looked, same_lists, stamped, path_entries, place_entries, id_entries};
 ghost use Rattle.tinymist_plain.specs.Stands.{place_said};
 
-use crate::compare::{same_answer, same_stamp};
 use crate::entries::{
     Entry, copy_answers, copy_stamps, find, put, remove, same_answers, same_stamps,
 };
 use crate::ids::{IdEntry, copy_ids, find_id, put_id, remove_id, same_ids};
 use crate::place::{Place, place_of};
+use crate::same::{same_answer, same_stamp};
 use crate::stamp::Stamp;
 use std::alloc::Global;
 use std::sync::Arc;
