@@ -1,7 +1,15 @@
 pub mod Lists
+pub mod IdLists
+pub mod Packages
 pub mod Looks
-pub mod Cuts
-pub mod Views
 pub mod Edits
+pub mod Clean
+pub mod Found
+pub mod Asked
+pub mod Edited
+pub mod Tops
+pub mod Names
+pub mod Answered
+pub mod Cuts
 pub mod Runs
 pub mod Replies

@@ -13,21 +13,21 @@ use Rattle.std.specs.Option.{option_map}
 use Rattle.std.proofs.lemmas.List.{length-map, map-append}
 use Rattle.std.proofs.lemmas.Option.{slice_get-map}
 use Rattle.ty_model.specs.Values.{Id, id_cmp, text_cmp, Answer}
-use Rattle.ty_model.specs.Version.{Version, same_id}
-use Rattle.ty_model.specs.Batch.{MapPath, UnmapPath, MapId, UnmapId, Clear, ChangeSet, ChangeView, commit, next_stamp}
-use Rattle.ty_model.specs.Places.{place_of}
-use Rattle.ty_model.specs.LookUp.{answer_by}
+use Rattle.ty_model.specs.Version.{Version, Stamp, same_id}
+use Rattle.ty_model.specs.Batch.{MapPath, UnmapPath, Clear, ChangeSet, ChangeView, commit, next_stamp}
+use Rattle.ty_model.specs.Batch as batch
+use Rattle.ty_model.specs.Places.{id_by_parent}
 use Rattle.ty_model.specs.Space.{Space}
-use Rattle.tinymist_session.specs.Command.{Command, Edit, Snapshot, Read, Paths, IdWord}
+use Rattle.tinymist_session.specs.Command.{Command, Edit, MapId, UnmapId, Rootless, Snapshot, Read, Source, Line, Paths, Ids, Path, Clean, PathWord, TagWord}
 use Rattle.tinymist_session.specs.Reply.{Reply, AtRevision, ViewNumber, BadView, BadId, reply_to, reply_line}
-use Rattle.tinymist_session.specs.Machine.{State, opening, step, view_at, with_asked, read_step, read_in, id_for}
+use Rattle.tinymist_session.specs.Machine.{State, opening, step, view_at, with_asked, on_named, read_in}
 use Rattle.tinymist_session.specs.Session.{replies_from, replies_to, commands_of}
-use Rattle.tinymist_plain.specs.Kept.{Lists, Listed, listed, same_lists}
+use Rattle.tinymist_plain.specs.Kept.{Lists, Listed, listed, same_lists, looked}
 use Rattle.tinymist_plain.specs.Worked.{no_files, default_limits, IsWorked}
 use Rattle.tinymist_plain.proofs.Edits.{mapped, committed}
 use Rattle.tinymist_plain.proofs.Lists.{entries-empty}
-use Rattle.tinymist_plain.proofs.Looks.{by_place, look_is}
-use Rattle.tinymist_plain.proofs.Views.{views_same, got}
+use Rattle.tinymist_plain.proofs.Looks.{look_is}
+use Rattle.tinymist_plain.proofs.Asked.{views_same, got}
 
 abbrev Entries : Type 0
 Entries = List (List ℕ × Answer)
@@ -36,32 +36,34 @@ Entries = List (List ℕ × Answer)
 abbrev with_paths : Entries → Lists
 with_paths entries = record { by_id = []; by_path = entries; told = []; drops = [] }
 
+abbrev first_stamp : Stamp
+first_stamp = record { space = 1; revision = 2 }
+
 abbrev version_by : ℕ → Entries → Listed
-version_by n entries = record { revision = n; layers = with_paths entries; resolver = finmap.empty }
+version_by n entries = record { revision = n; layers = with_paths entries; reset = first_stamp; resolver = finmap.empty }
+
+abbrev shown : ℕ × Entries → Listed
+shown v = version_by v.0 v.1
 
 -- ---- a read
-
-abbrev said_at : Entries → Id → Answer
-said_at entries id = answer_by (by_place (with_paths entries) (place_of finmap.empty id)) no_files
 
 abbrev reply_of : Option (ℕ × Entries) → Option Id → Reply
 reply_of None id = BadView
 reply_of (Some view) None = BadId
-reply_of (Some view) (Some id) = reply_to (said_at view.1 id)
+reply_of (Some view) (Some id) = reply_to (looked (shown view) no_files id)
 
 -- ---- all replies
 
 abbrev viewed : List (ℕ × Entries) → ℕ → Option (ℕ × Entries)
 viewed views k = cond (k == 0) None (slice_get views (k - 1))
 
--- each edit maps a path of the live state, and no paths are listed
+-- each maps a path of the live state, takes a snapshot, or reads a path
 abbrev AreSimple : List Command → Type 0
 AreSimple [] = ⊤
 AreSimple (Edit target (MapPath path answer) ∷ commands) = (target ≡ 0) × AreSimple commands
-AreSimple (Edit target item ∷ commands) = ⊥
-AreSimple (Paths target ∷ commands) = ⊥
 AreSimple (Snapshot ∷ commands) = AreSimple commands
-AreSimple (Read k word ∷ commands) = AreSimple commands
+AreSimple (Read k (PathWord path) ∷ commands) = AreSimple commands
+AreSimple (command ∷ commands) = ⊥
 
 abbrev answers : ℕ → Entries → List (ℕ × Entries) → List Command → List ℕ
 answers n live views [] = []
@@ -70,17 +72,13 @@ answers n live views (Edit target (MapPath path answer) ∷ commands) =
     cond (same_lists (with_paths live) (with_paths more))
     (reply_line (AtRevision n) ++ answers n live views commands)
     (reply_line (AtRevision (n + 1)) ++ answers (n + 1) more views commands)
-answers n live views (Edit target item ∷ commands) = []
-answers n live views (Paths target ∷ commands) = []
 answers n live views (Snapshot ∷ commands) = reply_line (ViewNumber (length views + 1)) ++ answers n live (views ++ (n, live) ∷ []) commands
-answers n live views (Read k word ∷ commands) = reply_line (reply_of (viewed views k) (id_for word)) ++ answers n live views commands
+answers n live views (Read k (PathWord path) ∷ commands) = reply_line (reply_of (viewed views k) (id_by_parent path)) ++ answers n live views commands
+answers n live views (command ∷ commands) = []
 
 -- a state that has these entries
 abbrev now_of : Space → Listed
 now_of s = listed s.now
-
-abbrev shown : ℕ × Entries → Listed
-shown v = version_by v.0 v.1
 
 record Shows (n : ℕ) (live : Entries) (views : List (ℕ × Entries)) (s : State) : Type 0 where
   live_is : listed s.live.now ≡ version_by n live
@@ -105,30 +103,27 @@ views_agree spaces views k is = elim (k == 0) as (λ b. option_map now_of (cond 
 some_same : {A : Type 0} (x y : A) → Some x ≡ Some y → x ≡ y
 some_same x y e = cc
 
-reads : (s : State) (k : ℕ) (word : IdWord) (w : Option Space) (view : Option (ℕ × Entries)) (id : Option Id) → id_for word ≡ id → option_map now_of w ≡ option_map shown view → reply_of view id ≡ (read_step s no_files k word w).reply
-reads s k word None None id named is = refl
-reads s k word None (Some view) id named is = absurd (cc)
-reads s k word (Some w) None id named is = absurd (cc)
-reads s k word (Some w) (Some view) None named is = ap (λ (o : Option Id). (read_in s no_files k w o).reply) (sym named)
-reads s k word (Some w) (Some view) (Some id) named is =
-    ap reply_to (sym (look_is (shown view) w.now id no_files (sym (some_same (now_of w) (shown view) is)) refl refl))
-    ∙ ap (λ (o : Option Id). (read_in s no_files k w o).reply) (sym named)
+reads : (s : State) (k : ℕ) (named : Option Id) (w : Option Space) (view : Option (ℕ × Entries)) → option_map now_of w ≡ option_map shown view → reply_of view named ≡ (on_named s w named (read_in s no_files k)).reply
+reads s k named None None is = refl
+reads s k named None (Some view) is = absurd (cc)
+reads s k named (Some w) None is = absurd (cc)
+reads s k None (Some w) (Some view) is = refl
+reads s k (Some id) (Some w) (Some view) is = ap reply_to (sym (look_is w.now no_files id ∙ ap (λ (l : Listed). looked l no_files id) (some_same (now_of w) (shown view) is)))
 
 -- asked ids are no part of a version
 now-asked : (id : Id) (w : Space) → now_of (with_asked id w) ≡ now_of w
 now-asked id w = elim (w.compiling && not (list_any (same_id id) w.asked)) as (λ b. now_of (cond b (record w { asked = w.asked ++ id ∷ [] }) w) ≡ now_of w) [ true ↦ refl | false ↦ refl ]
 
-module _ (s : State) (k : ℕ) (word : IdWord) where
-  live_stays : (w : Option Space) → listed (read_step s no_files k word w).state.live.now ≡ listed s.live.now
-  live_stays None = refl
-  live_stays (Some w) = elim (id_for word) as (λ o. listed (read_in s no_files k w o).state.live.now ≡ listed s.live.now) [ None ↦ refl | Some id ↦ refl ]
+module _ (s : State) (k : ℕ) where
+  live_stays : (named : Option Id) (w : Option Space) → listed (on_named s w named (read_in s no_files k)).state.live.now ≡ listed s.live.now
+  live_stays named None = refl
+  live_stays None (Some w) = refl
+  live_stays (Some id) (Some w) = refl
 
-  views_stay : (w : Option Space) → view_at s.views k ≡ w → map now_of (read_step s no_files k word w).state.views ≡ map now_of s.views
-  views_stay None e = refl
-  views_stay (Some w) e = elim (id_for word) as (λ o. map now_of (read_in s no_files k w o).state.views ≡ map now_of s.views) [
-    | None ↦ refl
-    | Some id ↦ views_same now_of now-asked s.views (k - 1) w id (got (k == 0) (slice_get s.views (k - 1)) w e)
-  ]
+  views_stay : (named : Option Id) (w : Option Space) → view_at s.views k ≡ w → map now_of (on_named s w named (read_in s no_files k)).state.views ≡ map now_of s.views
+  views_stay named None e = refl
+  views_stay None (Some w) e = refl
+  views_stay (Some id) (Some w) e = views_same now_of now-asked s.views (k - 1) w id (got (k == 0) (slice_get s.views (k - 1)) w e)
 
 -- ---- all commands
 
@@ -154,22 +149,32 @@ answers-are (Edit target (MapPath path answer) ∷ commands) simple n live views
     ] refl
     ∙ ap (λ (t : ℕ). replies_from no_files s (Edit t (MapPath path answer) ∷ commands)) (sym simple.0)
 answers-are (Edit target (UnmapPath path) ∷ commands) simple n live views s h = absurd simple
-answers-are (Edit target (MapId id answer) ∷ commands) simple n live views s h = absurd simple
-answers-are (Edit target (UnmapId id) ∷ commands) simple n live views s h = absurd simple
+answers-are (Edit target (batch.MapId id answer) ∷ commands) simple n live views s h = absurd simple
+answers-are (Edit target (batch.UnmapId id) ∷ commands) simple n live views s h = absurd simple
 answers-are (Edit target Clear ∷ commands) simple n live views s h = absurd simple
 answers-are (Edit target (ChangeSet removes inserts) ∷ commands) simple n live views s h = absurd simple
 answers-are (Edit target ChangeView ∷ commands) simple n live views s h = absurd simple
+answers-are (MapId target word content ∷ commands) simple n live views s h = absurd simple
+answers-are (UnmapId target word ∷ commands) simple n live views s h = absurd simple
+answers-are (Rootless vpath ∷ commands) simple n live views s h = absurd simple
+answers-are (Source k word ∷ commands) simple n live views s h = absurd simple
+answers-are (Line k word offset ∷ commands) simple n live views s h = absurd simple
 answers-are (Paths target ∷ commands) simple n live views s h = absurd simple
+answers-are (Ids target ∷ commands) simple n live views s h = absurd simple
+answers-are (Path target word ∷ commands) simple n live views s h = absurd simple
+answers-are (Clean target r words ∷ commands) simple n live views s h = absurd simple
+answers-are (Read k (TagWord tag) ∷ commands) simple n live views s h = absurd simple
 answers-are (Snapshot ∷ commands) simple n live views s h =
     let after = (step s no_files Snapshot).state in
     let seen : map now_of after.views ≡ map shown (views ++ (n, live) ∷ []) = map-append now_of s.views _ ∙ (λ i. h.views_are i ++ h.live_is i ∷ []) ∙ sym (map-append shown views ((n, live) ∷ [])) in
     ap (λ (count : ℕ). reply_line (ViewNumber (count + 1)) ++ answers n live (views ++ (n, live) ∷ []) commands) (counts s views h.views_are)
     ∙ ap (λ (bytes : List ℕ). reply_line (ViewNumber (length s.views + 1)) ++ bytes) (answers-are commands simple n live (views ++ (n, live) ∷ []) after (record { live_is = h.live_is; views_are = seen }))
-answers-are (Read k word ∷ commands) simple n live views s h =
-    let after = (step s no_files (Read k word)).state in
-    let reply = reads s k word (view_at s.views k) (viewed views k) (id_for word) refl (views_agree s.views views k h.views_are) in
+answers-are (Read k (PathWord path) ∷ commands) simple n live views s h =
+    let after = (step s no_files (Read k (PathWord path))).state in
+    let named = id_by_parent path in
+    let reply = reads s k named (view_at s.views k) (viewed views k) (views_agree s.views views k h.views_are) in
     ap (λ (r : Reply). reply_line r ++ answers n live views commands) reply
-    ∙ ap (λ (bytes : List ℕ). reply_line (step s no_files (Read k word)).reply ++ bytes) (answers-are commands simple n live views after (record { live_is = live_stays s k word (view_at s.views k) ∙ h.live_is; views_are = views_stay s k word (view_at s.views k) refl ∙ h.views_are }))
+    ∙ ap (λ (bytes : List ℕ). reply_line (step s no_files (Read k (PathWord path))).reply ++ bytes) (answers-are commands simple n live views after (record { live_is = live_stays s k named (view_at s.views k) ∙ h.live_is; views_are = views_stay s k named (view_at s.views k) refl ∙ h.views_are }))
 
 -- ---- worked sessions
 
@@ -177,7 +182,7 @@ worked : (input replies : List ℕ) → AreSimple (commands_of default_limits in
 worked input replies simple is = sym (answers-are (commands_of default_limits input) simple 2 [] [] opening (record { live_is = first; views_are = refl })) ∙ is
   where
     first : listed opening.live.now ≡ version_by 2 []
-    first = λ j. record { revision = 2; layers = record { by_id = entries-empty id_cmp j; by_path = entries-empty text_cmp j; told = entries-empty text_cmp j; drops = entries-empty text_cmp j }; resolver = finmap.empty }
+    first = λ j. record { revision = 2; layers = record { by_id = entries-empty id_cmp j; by_path = entries-empty text_cmp j; told = entries-empty text_cmp j; drops = entries-empty text_cmp j }; reset = first_stamp; resolver = finmap.empty }
 
 pub no_lines : IsWorked [] []
 no_lines = (refl, refl)

@@ -1,4 +1,5 @@
 pub mod Lists
+pub mod Stands
 pub mod Kept
 pub mod Worked
 pub mod Ended

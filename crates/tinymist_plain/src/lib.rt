@@ -2,11 +2,16 @@
 //! definition, so that what it answers can be held against any other body.
 #![tactic(auto)]
 
+mod content;
 mod entries;
+mod ids;
 mod lines;
 mod place;
+mod questions;
 mod rows;
+mod same;
 mod session;
+mod source;
 mod space;
 mod stamp;
 mod state;

@@ -85,7 +85,7 @@ fn replies_to<M: PathAccessModel>(
     ensures replies { (told : Told) → M.told disk.old ≡ Some told → IsFixed told → IfOk result (λ bytes. bytes.items ≡ plain.replies_from told opening (map command_of commands.now)) }
     ensures left { (told : Told) → M.told disk.old ≡ Some told → IsFixed told → M.told disk.new ≡ Some told }
 {
-    let mut state = State::opening(alloc);
+    let mut state = State::opening(alloc)?;
     let mut replies = Vec::new(alloc);
     for command in commands {
         let reply = state.step(alloc, disk, command)?;

@@ -1,5 +1,5 @@
 //! A space as all its versions.
-ghost use Rattle.std.specs.Prelude.{◌≡◌, ◌+◌, ◌-◌, ◌^◌, ◌<◌, ◌≤◌, ◌∷◌, [], false, IfOk, OnOk};
+ghost use Rattle.std.specs.Prelude.{map, ◌≡◌, ◌+◌, ◌-◌, ◌^◌, ◌<◌, ◌≤◌, ◌∷◌, [], false, IfOk, OnOk};
 ghost use Rattle.std.specs.FinMap as finmap;
 ghost use Rattle.ty_model.specs.Version.{first_version};
 ghost use Rattle.ty_model.specs.Batch as batch;
@@ -7,7 +7,7 @@ ghost use Rattle.ty_model.specs.Batch.{staged, is_view};
 ghost use Rattle.ty_model.specs.Space as model;
 ghost use Rattle.ty_model.specs.Space.{after_commit};
 ghost use Rattle.tinymist_session.specs.Said.{edit_said};
-ghost use Rattle.tinymist_plain.specs.Kept.{layers_of, lists_of, listed, version_of, space_of, part_of};
+ghost use Rattle.tinymist_plain.specs.Kept.{layers_of, lists_of, listed, version_of, same_past, all_clean, space_of, part_of};
 
 use crate::stamp::Stamp;
 use crate::version::Version;
@@ -15,6 +15,7 @@ use std::alloc::Global;
 use std::mem;
 use tinymist_session::Edit;
 use ty_path::OutOfMemory;
+use ty_syntax::FileId;
 
 /// The last version, and those before it, the newest first.
 #[derive(Drop)]
@@ -65,7 +66,8 @@ impl Space {
 
     /// The version that an edit made of the last one comes after it, where something differs.
     fn take_in(&mut self, mut edited: Version) -> Result<(), OutOfMemory>
-        requires { self.old.latest.revision < 2 ^ 64 - 1 }
+        requires revision { self.old.latest.revision < 2 ^ 64 - 1 }
+        requires reset { edited.reset ≡ self.old.latest.reset }
         ensures space { (s : model.Space) (item : batch.Item) → space_of self.old ≡ part_of s → is_view item ≡ false
             → layers_of edited ≡ lists_of (staged s.number s.now.revision s.now.layers (item ∷ [])) → OnOk result (space_of self.new ≡ part_of (after_commit s (item ∷ []))) }
         ensures revision { self.new.latest.revision ≤ self.old.latest.revision + 1 }
@@ -77,5 +79,36 @@ impl Space {
         let before = mem::replace(&mut self.latest, edited);
         self.past.insert(0, before)?;
         Ok(())
+    }
+    /// Whether ids are clean since a revision: all versions from there on have the same entries for each of them.
+    pub(crate) fn are_clean(
+        &self,
+        alloc: Global,
+        revision: u64,
+        ids: &[FileId],
+    ) -> Result<bool, OutOfMemory>
+        ensures { IfOk result (λ clean. clean ≡ all_clean self.now revision ids.now) }
+    {
+        for id in ids {
+            if !self.is_clean(alloc, revision, id)? {
+                return Ok(false);
+            }
+        }
+        Ok(true)
+    }
+
+    /// Whether the versions before the last one have the same entries for an id as that, from a revision on.
+    fn is_clean(&self, alloc: Global, revision: u64, id: &FileId) -> Result<bool, OutOfMemory>
+        ensures { IfOk result (λ clean. clean ≡ same_past (version_of self.now.latest) revision id.now (map version_of self.now.past.items)) }
+    {
+        for version in &self.past {
+            if version.revision < revision {
+                continue;
+            }
+            if !self.latest.same_at(alloc, version, id)? {
+                return Ok(false);
+            }
+        }
+        Ok(true)
     }
 }

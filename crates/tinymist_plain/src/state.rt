@@ -1,41 +1,51 @@
-//! The state of the plain program: the live space, and a whole copy of it for each view.
-ghost use Rattle.std.specs.Prelude.{◌≡◌, ◌+◌, ◌-◌, ◌^◌, ◌<◌, ◌≤◌, ◌==◌, if◌then◌else◌, slice_get, IfOk, OnOk};
-ghost use Rattle.std.specs.Option.{option_copied};
+//! The state of the plain program: the live space, a whole copy of it for each view, and the ids that have a tag.
+ghost use Rattle.std.specs.Prelude.{◌≡◌, ◌+◌, ◌-◌, ◌^◌, ◌<◌, ◌≤◌, IfOk, OnOk};
+ghost use Rattle.std.specs.Option.{option_copied, is_some};
+ghost use Rattle.ty_model.specs.Batch as batch;
 ghost use Rattle.ty_model.specs.Disk.{Told, IsFixed};
-ghost use Rattle.tinymist_session.specs.Command as command;
+ghost use Rattle.tinymist_session.specs.Grammar.{answer_at};
 ghost use Rattle.tinymist_session.specs.Machine as machine;
-ghost use Rattle.tinymist_session.specs.Reply.{reply_to};
-ghost use Rattle.tinymist_session.specs.Said.{command_of, edit_said, reply_of};
-ghost use Rattle.tinymist_plain.specs.Kept.{IsKept, top_revision};
+ghost use Rattle.tinymist_session.specs.Said.{command_of, content_said, edit_said, id_said, reply_of};
+ghost use Rattle.tinymist_plain.specs.Kept.{IsKept, top_revision, view_kept, space_kept};
 
-use crate::place::id_for;
+use crate::content::answer_at;
+use crate::place::id_by_parent;
 use crate::space::Space;
 use std::alloc::Global;
-use tinymist_session::{Command, Edit, Reply};
-use ty_cells::{FileSnapshot, PathAccessModel};
-use ty_path::OutOfMemory;
-use ty_syntax::FileFault;
+use tinymist_session::{Command, ContentWord, Edit, IdWord, Reply};
+use ty_cells::PathAccessModel;
+use ty_path::{OutOfMemory, Share};
+use ty_syntax::{FileId, Root, TagFault, Tags, VirtualPath, detached_entry, memory_main_entry};
 
-/// The live space, the views with view 1 first, and the next number of a space.
+/// The live space, the views with view 1 first, what is drawn next, and the ids that have a tag with that of tag 1
+/// first.
 #[derive(Drop)]
 pub(crate) struct State {
     pub(crate) live: Space,
-    views: Vec<Space>,
+    pub(crate) views: Vec<Space>,
     pub(crate) next_space: u64,
+    pub(crate) next_tag: u64,
+    tagged: Vec<FileId>,
 }
 
 impl State {
     /// The state at the start.
-    pub(crate) fn opening(alloc: Global) -> State
-        ensures kept { IsKept result machine.opening }
-        ensures revision { top_revision result ≡ 2 }
-        ensures space { result.next_space ≡ 2 }
+    pub(crate) fn opening(alloc: Global) -> Result<State, OutOfMemory>
+        ensures kept { IfOk result (λ p. IsKept p machine.opening) }
+        ensures revision { IfOk result (λ p. top_revision p ≡ 2) }
+        ensures space { IfOk result (λ p. p.next_space ≡ 2) }
+        ensures tag { IfOk result (λ p. p.next_tag ≡ 3) }
     {
-        State {
+        let mut tagged = Vec::new(alloc);
+        tagged.push(detached_entry(alloc)?)?;
+        tagged.push(memory_main_entry(alloc)?)?;
+        Ok(State {
             live: Space::first(alloc),
             views: Vec::new(alloc),
             next_space: 2,
-        }
+            next_tag: 3,
+            tagged,
+        })
     }
 
     /// Answers a command.
@@ -47,17 +57,29 @@ impl State {
     ) -> Result<Reply, OutOfMemory>
         requires revision { top_revision self.old < 2 ^ 64 - 1 }
         requires space { self.old.next_space < 2 ^ 64 - 1 }
+        requires tag { self.old.next_tag < 2 ^ 64 - 1 }
         ensures reply { (told : Told) (s : machine.State) → M.told disk.old ≡ Some told → IsKept self.old s → IfOk result (λ r. reply_of r ≡ (machine.step s told (command_of command.now)).reply) }
         ensures state { (told : Told) (s : machine.State) → M.told disk.old ≡ Some told → IsKept self.old s → OnOk result (IsKept self.new (machine.step s told (command_of command.now)).state) }
         ensures left { (told : Told) → M.told disk.old ≡ Some told → IsFixed told → M.told disk.new ≡ Some told }
         ensures revision { top_revision self.new ≤ top_revision self.old + 1 }
         ensures space { self.new.next_space ≤ self.old.next_space + 1 }
+        ensures tag { self.new.next_tag ≤ self.old.next_tag + 1 }
     {
         match command {
             Command::Edit(target, edit) => self.edit_target(alloc, *target, edit),
+            Command::MapId(target, word, content) => self.map_id(alloc, *target, word, content),
+            Command::UnmapId(target, word) => self.unmap_id(alloc, *target, word),
+            Command::Rootless(vpath) => self.make_rootless(alloc, vpath),
             Command::Snapshot => self.take_snapshot(alloc),
-            Command::Read(view, path) => self.read_view(alloc, disk, *view, path.as_str()),
+            Command::Read(view, word) => self.read_view(alloc, disk, *view, word),
+            Command::Source(view, word) => self.source_in(alloc, disk, *view, word),
+            Command::Line(view, word, offset) => self.line_in(alloc, disk, *view, word, *offset),
             Command::Paths(target) => self.list_paths(alloc, *target),
+            Command::Ids(target) => self.list_ids(alloc, *target),
+            Command::Path(target, word) => self.path_in(alloc, *target, word),
+            Command::Clean(target, revision, words) => {
+                self.clean_in(alloc, *target, *revision, words)
+            }
         }
     }
 
@@ -68,6 +90,7 @@ impl State {
         ensures state { (s : machine.State) → IsKept self.old s → OnOk result (IsKept self.new (machine.edit_step s target (edit_said edit.now)).state) }
         ensures revision { top_revision self.new ≤ top_revision self.old + 1 }
         ensures space { self.new.next_space ≡ self.old.next_space }
+        ensures tag { self.new.next_tag ≡ self.old.next_tag }
     {
         if target == 0 {
             self.live.edit(alloc, edit)?;
@@ -81,24 +104,63 @@ impl State {
         Ok(Reply::AtRevision(self.views[k].latest.revision))
     }
 
-    /// Lists the paths of the overlay of a target.
-    fn list_paths(&self, alloc: Global, target: u64) -> Result<Reply, OutOfMemory>
-        ensures { (s : machine.State) → IsKept self.now s → IfOk result (λ r. reply_of r ≡ machine.paths_reply (machine.space_at s target)) }
+    /// Maps an id of a target, and answers its revision.
+    fn map_id(
+        &mut self,
+        alloc: Global,
+        target: u64,
+        word: &IdWord,
+        content: &ContentWord,
+    ) -> Result<Reply, OutOfMemory>
+        requires { top_revision self.old < 2 ^ 64 - 1 }
+        ensures reply { (s : machine.State) → IsKept self.old s → IfOk result (λ r. reply_of r ≡ (machine.id_edit_step s target (id_said word.now) (λ id. batch.MapId id (answer_at id.vpath (content_said content.now)))).reply) }
+        ensures state { (s : machine.State) → IsKept self.old s → OnOk result (IsKept self.new (machine.id_edit_step s target (id_said word.now) (λ id. batch.MapId id (answer_at id.vpath (content_said content.now)))).state) }
+        ensures revision { top_revision self.new ≤ top_revision self.old + 1 }
+        ensures space { self.new.next_space ≡ self.old.next_space }
+        ensures tag { self.new.next_tag ≡ self.old.next_tag }
     {
-        match self.space(target) {
-            Some(space) => Ok(Reply::PathList(space.latest.paths(alloc)?)),
-            None => Ok(Reply::BadView),
+        if !self.has_space(target) {
+            return Ok(Reply::BadView);
         }
+        let Some(id) = self.id_of(alloc, word)? else {
+            return Ok(Reply::BadId);
+        };
+        let answer = answer_at(alloc, id.vpath().get_with_slash(), content)?;
+        self.edit_target(alloc, target, &Edit::MapId(id, answer))
     }
 
-    /// The space of a target.
-    fn space(&self, target: u64) -> Option<&Space>
-        ensures { option_copied result ≡ (if target == 0 then Some self.now.live else if target == 0 then None else slice_get self.now.views.items (target - 1)) }
+    /// Takes an id out of a target's overlay, and answers its revision.
+    fn unmap_id(&mut self, alloc: Global, target: u64, word: &IdWord) -> Result<Reply, OutOfMemory>
+        requires { top_revision self.old < 2 ^ 64 - 1 }
+        ensures reply { (s : machine.State) → IsKept self.old s → IfOk result (λ r. reply_of r ≡ (machine.id_edit_step s target (id_said word.now) batch.UnmapId).reply) }
+        ensures state { (s : machine.State) → IsKept self.old s → OnOk result (IsKept self.new (machine.id_edit_step s target (id_said word.now) batch.UnmapId).state) }
+        ensures revision { top_revision self.new ≤ top_revision self.old + 1 }
+        ensures space { self.new.next_space ≡ self.old.next_space }
+        ensures tag { self.new.next_tag ≡ self.old.next_tag }
     {
-        if target == 0 {
-            return Some(&self.live);
+        if !self.has_space(target) {
+            return Ok(Reply::BadView);
         }
-        view_of(&self.views, target)
+        let Some(id) = self.id_of(alloc, word)? else {
+            return Ok(Reply::BadId);
+        };
+        self.edit_target(alloc, target, &Edit::UnmapId(id))
+    }
+
+    /// Makes an id of no workspace, and answers its tag.
+    fn make_rootless(&mut self, alloc: Global, vpath: &VirtualPath) -> Result<Reply, OutOfMemory>
+        requires { self.old.next_tag < 2 ^ 64 - 1 }
+        ensures reply { (s : machine.State) → IsKept self.old s → IfOk result (λ r. reply_of r ≡ (machine.rootless_step s vpath.now).reply) }
+        ensures state { (s : machine.State) → IsKept self.old s → OnOk result (IsKept self.new (machine.rootless_step s vpath.now).state) }
+        ensures revision { top_revision self.new ≡ top_revision self.old }
+        ensures space { self.new.next_space ≡ self.old.next_space }
+        ensures tag { self.new.next_tag ≤ self.old.next_tag + 1 }
+    {
+        let tag = self.next_tag;
+        let id = rootless_id(alloc, vpath, tag)?;
+        self.tagged.push(id)?;
+        self.next_tag = tag + 1;
+        Ok(Reply::IdTag(tag))
     }
 
     /// Copies the live space whole, as the next view.
@@ -108,6 +170,7 @@ impl State {
         ensures state { (s : machine.State) → IsKept self.old s → OnOk result (IsKept self.new (machine.snapshot_step s).state) }
         ensures revision { top_revision self.new ≤ top_revision self.old }
         ensures space { self.new.next_space ≤ self.old.next_space + 1 }
+        ensures tag { self.new.next_tag ≡ self.old.next_tag }
     {
         let view = self.live.copy(alloc, self.next_space)?;
         self.views.push(view)?;
@@ -115,44 +178,66 @@ impl State {
         Ok(Reply::ViewNumber(self.views.len()))
     }
 
-    /// Looks a file up in the last version of a view.
-    fn read_view<M: PathAccessModel>(
-        &self,
-        alloc: Global,
-        disk: &mut M,
-        view: u64,
-        path: &str,
-    ) -> Result<Reply, OutOfMemory>
-        ensures reply { (told : Told) (s : machine.State) → M.told disk.old ≡ Some told → IsKept self.now s → IfOk result (λ r. reply_of r ≡ (machine.read_step s told view (command.PathWord path.now) (machine.view_at s.views view)).reply) }
-        ensures left { (told : Told) → M.told disk.old ≡ Some told → IsFixed told → M.told disk.new ≡ Some told }
+    /// The id that a word names, if any.
+    pub(crate) fn id_of(&self, alloc: Global, word: &IdWord) -> Result<Option<FileId>, OutOfMemory>
+        ensures { IfOk result (λ id. id ≡ machine.id_for self.now.tagged.items (id_said word.now)) }
     {
-        let Some(space) = view_of(&self.views, view) else {
-            return Ok(Reply::BadView);
-        };
-        let Some(id) = id_for(alloc, path)? else {
-            return Ok(Reply::BadId);
-        };
-        reply_to(alloc, space.latest.look(alloc, disk, &id)?)
+        match word {
+            IdWord::Path(path) => id_by_parent(alloc, path.as_str()),
+            IdWord::Tag(tag) => match self.tagged_at(*tag) {
+                Some(id) => Ok(Some(id.share(alloc)?)),
+                None => Ok(None),
+            },
+        }
+    }
+
+    /// The id of a tag, where 0 is none.
+    fn tagged_at(&self, tag: u64) -> Option<&FileId>
+        ensures { option_copied result ≡ machine.tagged_at self.now.tagged.items tag }
+    {
+        if tag == 0 {
+            return None;
+        }
+        self.tagged.get((tag - 1) as usize)
+    }
+
+    /// The space of a target: the live one for 0, and else a view.
+    pub(crate) fn space(&self, target: u64) -> Option<&Space>
+        ensures { option_copied result ≡ space_kept self.now target }
+    {
+        if target == 0 {
+            return Some(&self.live);
+        }
+        self.view(target)
+    }
+
+    /// Whether there is a space of that number.
+    pub(crate) fn has_space(&self, target: u64) -> bool
+        ensures { result ≡ is_some (space_kept self.now target) }
+    {
+        self.space(target).is_some()
+    }
+
+    /// View k, where 0 is none.
+    pub(crate) fn view(&self, k: u64) -> Option<&Space>
+        ensures { option_copied result ≡ view_kept self.now.views.items k }
+    {
+        if k == 0 {
+            return None;
+        }
+        self.views.get((k - 1) as usize)
     }
 }
 
-/// View k, where 0 is none.
-fn view_of(views: &[Space], view: u64) -> Option<&Space>
-    ensures { option_copied result ≡ (if view == 0 then None else slice_get views.now (view - 1)) }
+/// The id of no workspace that has this tag.
+fn rootless_id(alloc: Global, vpath: &VirtualPath, tag: u64) -> Result<FileId, OutOfMemory>
+    requires { tag < 2 ^ 64 - 1 }
+    ensures { IfOk result (λ id. id ≡ machine.rootless_id vpath.now tag) }
 {
-    if view == 0 {
-        return None;
-    }
-    views.get((view - 1) as usize)
-}
-
-/// The reply to a read that has this answer.
-fn reply_to(alloc: Global, answer: FileSnapshot) -> Result<Reply, OutOfMemory>
-    ensures { IfOk result (λ r. reply_of r ≡ reply_to answer) }
-{
-    match answer.into_content(alloc) {
-        Ok(bytes) => Ok(Reply::Contents(bytes)),
-        Err(FileFault::File(error)) => Ok(Reply::Fails(error)),
-        Err(FileFault::OutOfMemory) => Err(OutOfMemory),
+    let mut tags = Tags::at(tag, 0);
+    match FileId::unique(alloc, Root::Project, vpath.share(alloc)?, &mut tags) {
+        Ok(id) => Ok(id),
+        Err(TagFault::Full) => unreachable!(),
+        Err(TagFault::OutOfMemory) => Err(OutOfMemory),
     }
 }

@@ -1,4 +1,8 @@
 //! Worked sessions and short inputs at the edges: the plain program and the real one answer each of them alike.
+mod cleans;
+mod mixed;
+mod worked;
+
 use super::*;
 use std::alloc::Global;
 use std::process::Abort;
@@ -52,6 +56,25 @@ fn compare<M: PathAccessModel>(
     assert_eq!(rt; sink.bytes(), replies.as_bytes(), "real: {input:?}");
     assert_eq!(rt; plain.end, end, "plain: {input:?}");
     assert_eq!(rt; end_of(answer), Some(end), "real: {input:?}");
+    Ok(())
+}
+
+/// Runs both programs over an input of good lines and a disk that stays as it is, and compares what they answer.
+fn alike<M: PathAccessModel>(
+    rt: &(impl Abort + AllocGlobal),
+    input: &[u8],
+    disk: &mut M,
+) -> Result<(), Fail> {
+    let alloc = rt.alloc();
+    let limits = DEFAULT_LIMITS;
+    let plain = plain_session(alloc, input, &limits, disk)?;
+    let mut source = MemorySource::new(input.to_vec(alloc)?, Vec::new(alloc), Vec::new(alloc));
+    let mut sink = MemorySink::new(Vec::new(alloc), Vec::new(alloc), Vec::new(alloc));
+    let answer = run_session(alloc, &mut source, &mut sink, disk, limits);
+    assert_eq!(rt; plain.end, End::Whole, "plain: {input:?}");
+    assert_eq!(rt; end_of(answer), Some(plain.end), "real: {input:?}");
+    assert!(rt; !plain.replies.is_empty(), "{input:?}");
+    assert_eq!(rt; sink.bytes(), plain.replies.as_slice(), "{input:?}");
     Ok(())
 }
 
@@ -223,7 +246,7 @@ fn edits_of_all_kinds(rt: HostRuntime) -> Result<(), Fail> {
 // Each is no sentence: a first line is answered, and the last one never is.
 #[test]
 fn lines_that_are_no_sentence(rt: HostRuntime) -> Result<(), Fail> {
-    let rows: [&[u8]; 52] = [
+    let rows: [&[u8]; 70] = [
         b"\n",
         b"snapshot\r\n",
         b"snapshot\x00\n",
@@ -276,6 +299,24 @@ fn lines_that_are_no_sentence(rt: HostRuntime) -> Result<(), Fail> {
         b"map\t0\t/a\t!\n",
         b"map\t0\t/a\t!found\n",
         b"map\t0\t/a\t!Other\n",
+        b"map-id\t0\t/a\n",
+        b"map-id\t0\ta\t=61\n",
+        b"map-id\t0\t#01\t=61\n",
+        b"map-id\t0\t#1\t61\n",
+        b"unmap-id\t0\n",
+        b"unmap-id\t0\t#\n",
+        b"rootless\n",
+        b"rootless\ta\n",
+        b"rootless\t/a/../b\n",
+        b"ids\n",
+        b"ids\t0\t/a\n",
+        b"path\t0\t#x\n",
+        b"source\t1\t/a\t\n",
+        b"line\t1\t/a\n",
+        b"line\t1\t/a\t-1\n",
+        b"clean\t0\n",
+        b"clean\t0\t02\n",
+        b"clean\t0\t2\t/a\t\n",
     ];
     let alloc = rt.alloc();
     let mut disk = disk_of(alloc, None)?;

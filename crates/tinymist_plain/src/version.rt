@@ -1,4 +1,4 @@
-//! A version as plain lists: what its overlay maps, what is told, and when paths were dropped.
+//! A version as plain lists: what its overlays map, what is told, and when paths were dropped.
 ghost use Rattle.std.specs.Prelude.{◌≡◌, map, IfOk, OnOk};
 ghost use Rattle.std.specs.Option.{option_copied, option_or};
 ghost use Rattle.std.specs.FinMap as finmap;
@@ -6,31 +6,36 @@ ghost use Rattle.ty_model.specs.Values.{text_cmp};
 ghost use Rattle.ty_model.specs.Version as model;
 ghost use Rattle.ty_model.specs.Version.{first_version};
 ghost use Rattle.ty_model.specs.Batch as batch;
-ghost use Rattle.ty_model.specs.LookUp.{look};
 ghost use Rattle.ty_model.specs.Disk.{Told, IsFixed};
+ghost use Rattle.ty_model.specs.Standing.{same_at_path, same_entries_at};
 ghost use Rattle.ty_path.specs.Shared.{path_text};
 ghost use Rattle.tinymist_vfs.specs.Items.{file_of};
 ghost use Rattle.tinymist_session.specs.Said.{edit_said};
 ghost use Rattle.tinymist_session.specs.ChangeSets.{set_said};
-ghost use Rattle.tinymist_plain.specs.Lists.{pairs, put_all, without_all};
-ghost use Rattle.tinymist_plain.specs.Kept.{layers_of, version_of, lists_of, listed, said_at, same_lists, stamped};
+ghost use Rattle.tinymist_plain.specs.Lists.{pairs, id_pairs, put_all, without_all};
+ghost use Rattle.tinymist_plain.specs.Kept.{layers_of, version_of, lists_of, listed, said_at, said_in, looked, same_lists, stamped, path_entries, place_entries, id_entries};
+ghost use Rattle.tinymist_plain.specs.Stands.{place_said};
 
 use crate::entries::{
     Entry, copy_answers, copy_stamps, find, put, remove, same_answers, same_stamps,
 };
-use crate::place::path_for;
+use crate::ids::{IdEntry, copy_ids, find_id, put_id, remove_id, same_ids};
+use crate::place::{Place, place_of};
+use crate::same::{same_answer, same_stamp};
 use crate::stamp::Stamp;
 use std::alloc::Global;
 use std::sync::Arc;
 use tinymist_session::{CleanChanges, Edit};
 use ty_cells::{FileSnapshot, PathAccessModel};
 use ty_path::{ImmutPath, OutOfMemory, Share};
-use ty_syntax::{FileFault, FileId};
+use ty_syntax::{FileError, FileId};
 
 /// What is mapped, told and dropped, at a revision.
 #[derive(Drop)]
 pub(crate) struct Version {
     pub(crate) revision: u64,
+    reset: Stamp,
+    by_id: Vec<IdEntry>,
     by_path: Vec<Entry<FileSnapshot>>,
     told: Vec<Entry<FileSnapshot>>,
     drops: Vec<Entry<Stamp>>,
@@ -43,6 +48,8 @@ impl Version {
     {
         Version {
             revision: 2,
+            reset: Stamp::new(1, 2),
+            by_id: Vec::new(alloc),
             by_path: Vec::new(alloc),
             told: Vec::new(alloc),
             drops: Vec::new(alloc),
@@ -55,6 +62,8 @@ impl Version {
     {
         Ok(Version {
             revision: self.revision,
+            reset: self.reset,
+            by_id: copy_ids(alloc, &self.by_id)?,
             by_path: copy_answers(alloc, &self.by_path)?,
             told: copy_answers(alloc, &self.told)?,
             drops: copy_stamps(alloc, &self.drops)?,
@@ -70,10 +79,13 @@ impl Version {
     ) -> Result<(), OutOfMemory>
         ensures layers { (l : model.Layers) → layers_of self.old ≡ lists_of l → OnOk result (layers_of self.new ≡ lists_of (batch.applied stamp l (edit_said edit.now))) }
         ensures revision { self.new.revision ≡ self.old.revision }
+        ensures reset { self.new.reset ≡ self.old.reset }
     {
         match edit {
             Edit::MapPath(path, answer) => self.map_path(alloc, path.as_str(), answer),
             Edit::UnmapPath(path) => self.unmap_path(alloc, path.as_str(), stamp),
+            Edit::MapId(id, answer) => self.map_id(alloc, id, answer),
+            Edit::UnmapId(id) => self.unmap_id(id),
             Edit::Clear => self.clear(alloc, stamp),
             Edit::Notify(changes) => self.notify(alloc, changes, stamp),
         }
@@ -88,6 +100,7 @@ impl Version {
     ) -> Result<(), OutOfMemory>
         ensures layers { (stamp : model.Stamp) (l : model.Layers) → layers_of self.old ≡ lists_of l → OnOk result (layers_of self.new ≡ lists_of (batch.applied stamp l (batch.MapPath path.now answer.now))) }
         ensures revision { self.new.revision ≡ self.old.revision }
+        ensures reset { self.new.reset ≡ self.old.reset }
     {
         let path = String::from_str(alloc, path)?;
         put(&mut self.by_path, path, answer.share(alloc)?)
@@ -97,19 +110,47 @@ impl Version {
     fn unmap_path(&mut self, alloc: Global, path: &str, stamp: Stamp) -> Result<(), OutOfMemory>
         ensures layers { (l : model.Layers) → layers_of self.old ≡ lists_of l → OnOk result (layers_of self.new ≡ lists_of (batch.applied stamp l (batch.UnmapPath path.now))) }
         ensures revision { self.new.revision ≡ self.old.revision }
+        ensures reset { self.new.reset ≡ self.old.reset }
     {
         remove(&mut self.by_path, path);
         put(&mut self.drops, String::from_str(alloc, path)?, stamp)
     }
 
-    /// Takes away all that is mapped, and drops those paths.
+    /// Maps an id, whatever was mapped there.
+    fn map_id(
+        &mut self,
+        alloc: Global,
+        id: &FileId,
+        answer: &FileSnapshot,
+    ) -> Result<(), OutOfMemory>
+        ensures layers { (stamp : model.Stamp) (l : model.Layers) → layers_of self.old ≡ lists_of l → OnOk result (layers_of self.new ≡ lists_of (batch.applied stamp l (batch.MapId id.now answer.now))) }
+        ensures revision { self.new.revision ≡ self.old.revision }
+        ensures reset { self.new.reset ≡ self.old.reset }
+    {
+        let id = id.share(alloc)?;
+        put_id(&mut self.by_id, id, answer.share(alloc)?)
+    }
+
+    /// Takes away what is mapped at an id, and stamps nothing.
+    fn unmap_id(&mut self, id: &FileId) -> Result<(), OutOfMemory>
+        ensures layers { (stamp : model.Stamp) (l : model.Layers) → layers_of self.old ≡ lists_of l → OnOk result (layers_of self.new ≡ lists_of (batch.applied stamp l (batch.UnmapId id.now))) }
+        ensures revision { self.new.revision ≡ self.old.revision }
+        ensures reset { self.new.reset ≡ self.old.reset }
+    {
+        remove_id(&mut self.by_id, id);
+        Ok(())
+    }
+
+    /// Takes away all that is mapped, and drops the paths.
     fn clear(&mut self, alloc: Global, stamp: Stamp) -> Result<(), OutOfMemory>
         ensures layers { (l : model.Layers) → layers_of self.old ≡ lists_of l → OnOk result (layers_of self.new ≡ lists_of (batch.applied stamp l batch.Clear)) }
         ensures revision { self.new.revision ≡ self.old.revision }
+        ensures reset { self.new.reset ≡ self.old.reset }
     {
         let paths = self.paths(alloc)?;
         drop_paths(alloc, &mut self.drops, &paths, stamp)?;
         self.by_path = Vec::new(alloc);
+        self.by_id = Vec::new(alloc);
         Ok(())
     }
 
@@ -122,6 +163,7 @@ impl Version {
     ) -> Result<(), OutOfMemory>
         ensures layers { (l : model.Layers) → layers_of self.old ≡ lists_of l → OnOk result (layers_of self.new ≡ lists_of (batch.applied stamp l (batch.ChangeSet (set_said changes.now.set).removes (set_said changes.now.set).inserts))) }
         ensures revision { self.new.revision ≡ self.old.revision }
+        ensures reset { self.new.reset ≡ self.old.reset }
     {
         remove_paths(&mut self.told, changes.removes());
         put_files(alloc, &mut self.told, changes.inserts())?;
@@ -139,13 +181,61 @@ impl Version {
         Ok(paths)
     }
 
+    /// The ids at which something is mapped, ascending.
+    pub(crate) fn ids(&self, alloc: Global) -> Result<Vec<FileId>, OutOfMemory>
+        ensures { IfOk result (λ ids. ids.items ≡ map (λ e. e.0) (id_pairs self.now.by_id.items)) }
+    {
+        let mut ids = Vec::new(alloc);
+        for entry in &self.by_id {
+            ids.push(entry.id.share(alloc)?)?;
+        }
+        Ok(ids)
+    }
+
     /// Whether both have the same lists.
     pub(crate) fn same_layers(&self, other: &Version) -> bool
         ensures { result ≡ same_lists (layers_of self.now) (layers_of other.now) }
     {
-        same_answers(&other.by_path, &self.by_path)
+        same_ids(&other.by_id, &self.by_id)
+            && same_answers(&other.by_path, &self.by_path)
             && same_answers(&other.told, &self.told)
             && same_stamps(&other.drops, &self.drops)
+    }
+
+    /// Whether both have the same entries for an id.
+    pub(crate) fn same_at(
+        &self,
+        alloc: Global,
+        other: &Version,
+        id: &FileId,
+    ) -> Result<bool, OutOfMemory>
+        ensures { IfOk result (λ same. same ≡ same_entries_at (id_entries (version_of self.now) id.now) (id_entries (version_of other.now) id.now)) }
+    {
+        let place = place_of(alloc, id)?;
+        Ok(
+            same_answer(find_id(&self.by_id, id), find_id(&other.by_id, id))
+                && self.same_at_place(other, &place)
+                && self.reset.same_as(&other.reset),
+        )
+    }
+
+    /// Whether both have the same at a place.
+    fn same_at_place(&self, other: &Version, place: &Place) -> bool
+        ensures { result ≡ same_at_path (place_entries (layers_of self.now) (place_said place.now)) (place_entries (layers_of other.now) (place_said place.now)) }
+    {
+        match place {
+            Place::At(path) => self.same_at_path(other, path.as_str()),
+            Place::Rootless | Place::RefusedAt(_) => true,
+        }
+    }
+
+    /// Whether both have the same at a path.
+    fn same_at_path(&self, other: &Version, path: &str) -> bool
+        ensures { result ≡ same_at_path (path_entries (layers_of self.now) path.now) (path_entries (layers_of other.now) path.now) }
+    {
+        same_answer(find(&self.by_path, path), find(&other.by_path, path))
+            && same_answer(find(&self.told, path), find(&other.told, path))
+            && same_stamp(find(&self.drops, path), find(&other.drops, path))
     }
 
     /// What an id has: by this version, or else by the disk.
@@ -155,13 +245,30 @@ impl Version {
         disk: &mut M,
         id: &FileId,
     ) -> Result<FileSnapshot, OutOfMemory>
-        ensures answer { (told : Told) (v : model.Version) → M.told disk.old ≡ Some told → version_of self.now ≡ listed v → IfOk result (λ said. said ≡ look v told id.now) }
+        ensures answer { (told : Told) → M.told disk.old ≡ Some told → IfOk result (λ said. said ≡ looked (version_of self.now) told id.now) }
         ensures left { (told : Told) → M.told disk.old ≡ Some told → IsFixed told → M.told disk.new ≡ Some told }
     {
-        match path_for(alloc, id) {
-            Ok(path) => self.look_at(alloc, disk, path.as_str()),
-            Err(FileFault::File(error)) => FileSnapshot::from_error(alloc, error),
-            Err(FileFault::OutOfMemory) => Err(OutOfMemory),
+        if let Some(answer) = find_id(&self.by_id, id) {
+            return answer.share(alloc);
+        }
+        let place = place_of(alloc, id)?;
+        self.look_in(alloc, disk, place)
+    }
+
+    /// What a place has.
+    fn look_in<M: PathAccessModel>(
+        &self,
+        alloc: Global,
+        disk: &mut M,
+        place: Place,
+    ) -> Result<FileSnapshot, OutOfMemory>
+        ensures answer { (told : Told) → M.told disk.old ≡ Some told → IfOk result (λ said. said ≡ said_in (layers_of self.now) told (place_said place)) }
+        ensures left { (told : Told) → M.told disk.old ≡ Some told → IsFixed told → M.told disk.new ≡ Some told }
+    {
+        match place {
+            Place::At(path) => self.look_at(alloc, disk, path.as_str()),
+            Place::Rootless => FileSnapshot::from_error(alloc, FileError::AccessDenied),
+            Place::RefusedAt(error) => FileSnapshot::from_error(alloc, error),
         }
     }
 

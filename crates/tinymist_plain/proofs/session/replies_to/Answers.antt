@@ -19,14 +19,16 @@ loop-command-preserved g c = record {
       (c.in_ok-reply.ensures.state told p.state disk p.kept));
   revision = omega (arith, c.in_ok-reply.ensures.revision);
   space = omega (arith, c.in_ok-reply.ensures.space);
+  tag = omega (arith, c.in_ok-reply.ensures.tag);
 }
 
 pub loop-command-init : goal.loop-command-init
 loop-command-init g c = record {
   left = λ told is fixed. is;
-  pending = λ told is fixed. rw c.new-replies.ensures.items (record { state = opening; kept = c.opening-state.ensures.kept; goes_on = refl });
-  revision = omega (arith, c.opening-state.ensures.revision);
-  space = omega (arith, c.opening-state.ensures.space);
+  pending = λ told is fixed. rw c.new-replies.ensures.items (record { state = opening; kept = c.in_ok-state.ensures.kept; goes_on = refl });
+  revision = omega (arith, c.in_ok-state.ensures.revision);
+  space = omega (arith, c.in_ok-state.ensures.space);
+  tag = omega (arith, c.in_ok-state.ensures.tag);
 }
 
 pub returns-clause-replies : goal.returns-clause-replies

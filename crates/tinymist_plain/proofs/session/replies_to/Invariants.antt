@@ -11,4 +11,5 @@ invariant-loop-command g l = record {
   pending : (told : Told) → g.M.PathAccessModel.told l.fn.disk ≡ Some told → IsFixed told → Pending told (map command_of l.commands) (map command_of (drop l.command-index l.commands)) l.replies.items l.state;
   revision : top_revision l.state ≤ 2 + l.command-index;
   space : l.state.next_space ≤ 2 + l.command-index;
+  tag : l.state.next_tag ≤ 3 + l.command-index;
 }
