@@ -48,6 +48,31 @@ def triples(files, count=5000):
     return maps(files, files, 8) + "".join(lines).encode()
 
 
+def notified(paths=5000):
+    """One change set that tells so many paths."""
+    return ("notify" + "".join("\t+/w/f%d.typ\t=00" % i for i in range(paths)) + "\n").encode()
+
+
+def notifies(count, items=1000, paths=5000):
+    """So many change sets of so many items over so many told paths."""
+    lines = []
+    for i in range(count):
+        files = ("\t+/w/f%d.typ\t=%04x" % ((i * 37 + k * 5) % paths, i) for k in range(items))
+        lines.append("notify" + "".join(files) + "\n")
+    return notified(paths) + "".join(lines).encode()
+
+
+def history(revisions, paths=500):
+    """Maps that make so many revisions."""
+    return "".join("map\t0\t/w/h%d.typ\t=%08x\n" % (i % paths, i) for i in range(revisions)).encode()
+
+
+def cleans(revisions, ids, total=100_000):
+    """After so many revisions, questions for so many ids at a time, all of them clean since the first revision."""
+    words = "".join("\t/w/c%d.typ" % i for i in range(ids))
+    return history(revisions) + ("clean\t0\t2" + words + "\n").encode() * (total // ids)
+
+
 WORDS = ("session", "--max-lines", "4000000", "--max-line", "200000000")
 
 
@@ -74,11 +99,15 @@ def run(data):
     return tuple(float(word) for word in told.split())
 
 
-def row(name, data):
+def row(name, data, before=None, items=0):
+    """Prints what the input takes; with an input of what comes before, the time of each of so many items after it too."""
     wall, user, system, peak, written = min(run(data) for _ in range(3))
     lines = data.count(b"\n")
-    print("%-44s %9d %8.1f %8.3f %8.3f %8.3f %10.0f %8.1f %8.1f" % (
-        name, lines, len(data) / MIB, wall, user, system, lines / wall, (len(data) + written) / MIB / wall, peak / 1024))
+    each = ""
+    if before is not None:
+        each = " %8.2f us each" % ((user + system - sum(min(run(before) for _ in range(3))[1:3])) * 1e6 / items)
+    print("%-44s %9d %8.1f %8.3f %8.3f %8.3f %10.0f %8.1f %8.1f%s" % (
+        name, lines, len(data) / MIB, wall, user, system, lines / wall, (len(data) + written) / MIB / wall, peak / 1024, each))
     sys.stdout.flush()
 
 
@@ -96,7 +125,12 @@ def main():
     row("  of 16 MiB", contents(1, 8 * MIB))
     row("  of 32 MiB", contents(1, 16 * MIB))
     for files in (100, 1000, 10_000, 100_000):
-        row("5,000 snapshot, map, read over %d files" % files, triples(files))
+        row("5,000 snapshot, map, read over %d files" % files, triples(files), maps(files, files, 8), 5000)
+    row("200 change sets of 1,000 over 5,000 paths", notifies(200), notified(), 200_000)
+    for revisions in (100, 3000, 50_000):
+        for ids in (1, 10, 1000):
+            name = "clean of %d ids after %d revisions" % (ids, revisions)
+            row(name, cleans(revisions, ids), history(revisions), 100_000)
 
 
 if __name__ == "__main__":
