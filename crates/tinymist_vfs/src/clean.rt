@@ -101,7 +101,7 @@ impl<R: RootResolver> Vfs<R> {
         self.are_ids_clean(rev, ids, steps)
     }
 
-    /// Sets a new reset stamp and forgets what was dropped, under the same resolver.
+    /// Sets a new reset stamp and forgets what was dropped, under the same resolver. It takes no memory.
     ///
     /// # Errors
     ///
@@ -113,6 +113,7 @@ impl<R: RootResolver> Vfs<R> {
         ensures standing { (past : List plain.Version) → Standing R.known self.old past → OnOk result (Standing R.known self.new (version_of R.known self.old ∷ past)) }
         ensures err { OnErr result (self.new ≡ self.old) }
         ensures full { IsErrOf result ReviseFault.Full ↔ (self.old.held.revision ≡ 2 ^ 64 - 1) }
+        ensures only { IfErr result (λ fault. fault ≡ ReviseFault.Full) }
     {
         if self.revision == u64::MAX {
             return Err(ReviseFault::Full);
@@ -172,6 +173,7 @@ impl<R: RootResolver> Vfs<R> {
         ensures standing { (past : List plain.Version) → Standing R.known self.old past → OnOk result (Standing R.known self.new (version_of R.known self.old ∷ past)) }
         ensures err { OnErr result ((self.new ≡ self.old) × (cells.new.disk.now ≡ cells.old.disk.now)) }
         ensures full { IsErrOf result ReviseFault.Full ↔ (self.old.held.revision ≡ 2 ^ 64 - 1) }
+        ensures only { IfErr result (λ fault. fault ≡ ReviseFault.Full) }
         ensures same_disk { cells.new.disk.ghost_name ≡ cells.old.disk.ghost_name }
         ensures told { M.told cells.new.disk.now ≡ M.told cells.old.disk.now }
         ensures reached { OnOk result (M.reset_gives cells.old.disk.now cells.new.disk.now) }

@@ -1,5 +1,5 @@
 //! The layers of a virtual file system, with their revision.
-ghost use Rattle.std.specs.Prelude.{◌≡◌, ◌+◌, ◌-◌, ◌^◌, ◌<◌, ◌≤◌, List, [], OnErr, OnOk, IfOk, IsErr, IsErrOf};
+ghost use Rattle.std.specs.Prelude.{◌≡◌, ◌+◌, ◌-◌, ◌^◌, ◌<◌, ◌≤◌, List, [], OnErr, OnOk, IfOk, IfErr, IsErr, IsErrOf};
 ghost use Rattle.ty_model.specs.Version.{first_version};
 ghost use Rattle.ty_model.specs.Standing.{no_changes};
 ghost use Rattle.ty_model.specs.Held.{version_of, Standing};
@@ -113,6 +113,11 @@ impl<R> Vfs<R> {
 }
 
 impl<R: RootResolver> Vfs<R> {
+    /// Layers without files, as the first version of a fresh space number. It takes no memory.
+    ///
+    /// # Errors
+    ///
+    /// `Full` exactly where the counter of spaces stands at its last value.
     pub fn new(alloc: Global, resolver: R, tags: &mut Tags) -> Result<Vfs<R>, TagFault>
         ensures space { IfOk result (λ v. v.held.space ≡ tags.old.next_space) }
         ensures version { IfOk result (λ v. version_of R.known v ≡ first_version v.held.space (R.known resolver)) }
@@ -122,6 +127,7 @@ impl<R: RootResolver> Vfs<R> {
         ensures err { OnErr result (tags.new ≡ tags.old) }
         ensures full { IsErrOf result TagFault.Full → tags.old.next_space ≡ 2 ^ 64 - 1 }
         ensures exact { tags.old.next_space ≡ 2 ^ 64 - 1 → IsErr result }
+        ensures only { IfErr result (λ fault. fault ≡ TagFault.Full) }
     {
         let space = tags.fresh_space()?;
         Ok(Vfs {
