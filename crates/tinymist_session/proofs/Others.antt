@@ -12,7 +12,7 @@ use Rattle.ty_model.specs.Space.{Space, after_commit, snapshot_of}
 use Rattle.tinymist_session.specs.Grammar.{answer_at}
 use Rattle.tinymist_session.specs.Command.{Command, Edit, MapId, UnmapId, Rootless, Snapshot, Read, Source, Line, Paths, Ids, Path, Clean, IdWord}
 use Rattle.tinymist_session.specs.Reply.{Reply, place_reply, text_reply, line_reply}
-use Rattle.tinymist_session.specs.Machine.{State, Stepped, view_at, space_at, with_space, with_asked, asking, edited, edit_in, id_edit_step, on_named, read_in, source_in, source_step, replied, clean_reply, id_for, ids_for, step, target_of}
+use Rattle.tinymist_session.specs.Machine.{State, Stepped, view_at, space_at, with_space, with_asked, asking, edited, edit_in, id_edit_step, on_named, read_in, source_in, source_step, replied, clean_reply, id_for, ids_for, step, target_of, LeavesOthers}
 
 pub slice_get-set_other : {A : Type 0} → (xs : List A) (i j : ℕ) (y : A) → i ≢ j → slice_get (slice_set xs i y) j ≡ slice_get xs j
 slice_get-set_other [] i j y h = refl
@@ -114,3 +114,6 @@ module _ (s : State) (space : Space) where
   others disk (Ids target) k h e = e
   others disk (Path target word) k h e = on_others k (space_at s target) (id_for s.tagged word) (λ found id. replied s (place_reply id (place_of found.now.resolver id))) (λ found id there. e) e
   others disk (Clean target r words) k h e = on_others k (space_at s target) (ids_for s.tagged words) (λ found ids. replied s (clean_reply found r ids)) (λ found ids there. e) e
+
+pub leaves_others : LeavesOthers
+leaves_others disk s command k space h e = others s space disk command k h e

@@ -1,5 +1,5 @@
 -- The plain machine: its state, and a step for each command.
-use Rattle.std.specs.Prelude.{ℕ, ◌+◌, ◌-◌, ◌==◌, ◌&&◌, nat_le, not, Bool, true, if◌then◌else◌, List, [], ◌∷◌, ◌++◌, length, slice_get, slice_set, Option, Some, None}
+use Rattle.std.specs.Prelude.{◌≡◌, ◌≢◌, ℕ, ◌+◌, ◌-◌, ◌==◌, ◌&&◌, nat_le, not, Bool, true, if◌then◌else◌, List, [], ◌∷◌, ◌++◌, length, slice_get, slice_set, Option, Some, None}
 use Rattle.std.specs.List.{list_any}
 use Rattle.std.specs.FinMap as map
 use Rattle.std.specs.Option.{option_map, option_and_then}
@@ -206,3 +206,7 @@ target_of (Paths target) = None
 target_of (Ids target) = None
 target_of (Path target word) = None
 target_of (Clean target r words) = None
+
+-- a step leaves each space but its target as it was, and a view that is there stays
+abbrev pub LeavesOthers : Type 0
+LeavesOthers = (disk : Told) (s : State) (command : Command) (k : ℕ) (space : Space) → target_of command ≢ Some k → space_at s k ≡ Some space → space_at (step s disk command).state k ≡ Some space

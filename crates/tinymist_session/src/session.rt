@@ -7,7 +7,7 @@ ghost use Rattle.tinymist_session.specs.LineSource.{HasCause};
 ghost use Rattle.tinymist_session.specs.LineReader.{ahead, held_of, line_of};
 ghost use Rattle.tinymist_session.specs.Command.{Command};
 ghost use Rattle.tinymist_session.specs.Grammar.{command_of};
-ghost use Rattle.tinymist_session.specs.Machine.{State, step, opening};
+ghost use Rattle.tinymist_session.specs.Machine.{State, step, opening, LeavesOthers};
 ghost use Rattle.tinymist_session.specs.Session.{end_of, replies_to};
 ghost use Rattle.tinymist_session.specs.Session as plain;
 ghost use Rattle.tinymist_session.specs.Shown.{IsShown, top_revision, next_number};
@@ -247,6 +247,7 @@ fn finish<W: ByteSink>(sink: &mut W, answer: Result<(), SessionFault>) -> Result
 ///
 /// `BadLine(n)` and `Full` exactly where the input ends so, `ReadFault` and `WriteFault` only where a count
 /// of the source or the sink rose, and want of memory.
+#[tactic(auto, using(crate::proofs::Others::leaves_others))]
 pub fn run_session<S: LineSource, W: ByteSink, M: PathAccessModel>(
     alloc: Global,
     source: &mut S,
@@ -265,6 +266,7 @@ pub fn run_session<S: LineSource, W: ByteSink, M: PathAccessModel>(
     ensures flushed { UnlessCutOff result (IsTrue (W.flushed sink.new)) }
     ensures read_cause { IsErrOf result SessionFault.ReadFault → Rose (S.faults source.old) (S.faults source.new) }
     ensures write_cause { IsErrOf result SessionFault.WriteFault → Rose (W.faults sink.old) (W.faults sink.new) ⊎ Rose (W.dry sink.old) (W.dry sink.new) }
+    ensures others { LeavesOthers }
 {
     let mut session = match Session::new(alloc) {
         Ok(session) => session,

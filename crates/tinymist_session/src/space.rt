@@ -121,6 +121,7 @@ pub(crate) fn read_of<M: PathAccessModel>(
 }
 
 /// The source of an id in a version, over the disk. That of the detached entry is empty, and asks for nothing.
+#[tactic(auto, using(crate::proofs::Fixed::sources_fixed))]
 pub(crate) fn source_of<M: PathAccessModel>(
     alloc: Global,
     vfs: &Vfs<MockRootResolver>,

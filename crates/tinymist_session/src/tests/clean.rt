@@ -40,12 +40,10 @@ fn clean_by_all_versions(rt: HostRuntime) -> Result<(), Fail> {
 
 #[test]
 fn a_drop_is_dirty(rt: HostRuntime) -> Result<(), Fail> {
-    let rows = [
-        (
-            "snapshot\nread\t1\t/w/a.typ\nnotify\t-/w/a.typ\nclean\t0\t2\t/w/a.typ\nclean\t0\t3\t/w/a.typ\n",
-            "view\t1\nbytes\t61\nok\t3\ndirty\nclean\n",
-        ),
-    ];
+    let rows = [(
+        "snapshot\nread\t1\t/w/a.typ\nnotify\t-/w/a.typ\nclean\t0\t2\t/w/a.typ\nclean\t0\t3\t/w/a.typ\n",
+        "view\t1\nbytes\t61\nok\t3\ndirty\nclean\n",
+    )];
     for (input, replies) in rows {
         let (status, sink) = answers_over_a_file(rt.alloc(), input)?;
         assert_eq!(rt; status, 0, "{input}");

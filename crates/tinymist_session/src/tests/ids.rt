@@ -32,12 +32,10 @@ fn ids_with_and_without_paths(rt: HostRuntime) -> Result<(), Fail> {
 
 #[test]
 fn ids_before_paths(rt: HostRuntime) -> Result<(), Fail> {
-    let rows = [
-        (
-            "notify\t+/w/a.typ\t=62\nmap\t0\t/w/a.typ\t=63\nmap-id\t0\t/w/a.typ\t=64\nids\t0\nsnapshot\nread\t1\t/w/a.typ\nunmap-id\t0\t/w/a.typ\nunmap-id\t0\t/w/a.typ\nsnapshot\nread\t2\t/w/a.typ\npaths\t0\nclear\t0\nclear\t0\nsnapshot\nread\t3\t/w/a.typ\n",
-            "ok\t3\nok\t4\nok\t5\nids\t/w/a.typ\nview\t1\nbytes\t64\nok\t6\nok\t6\nview\t2\nbytes\t63\npaths\t/w/a.typ\nok\t7\nok\t7\nview\t3\nbytes\t62\n",
-        ),
-    ];
+    let rows = [(
+        "notify\t+/w/a.typ\t=62\nmap\t0\t/w/a.typ\t=63\nmap-id\t0\t/w/a.typ\t=64\nids\t0\nsnapshot\nread\t1\t/w/a.typ\nunmap-id\t0\t/w/a.typ\nunmap-id\t0\t/w/a.typ\nsnapshot\nread\t2\t/w/a.typ\npaths\t0\nclear\t0\nclear\t0\nsnapshot\nread\t3\t/w/a.typ\n",
+        "ok\t3\nok\t4\nok\t5\nids\t/w/a.typ\nview\t1\nbytes\t64\nok\t6\nok\t6\nview\t2\nbytes\t63\npaths\t/w/a.typ\nok\t7\nok\t7\nview\t3\nbytes\t62\n",
+    )];
     for (input, replies) in rows {
         let (status, sink) = answers_over_a_file(rt.alloc(), input)?;
         assert_eq!(rt; status, 0, "{input}");

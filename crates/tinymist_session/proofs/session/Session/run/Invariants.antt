@@ -11,7 +11,7 @@ invariant-loop-n g l = record {
   pending : (input : List ℕ) (told : Told) → g.S.LineSource.left l.fn.source ≡ Some input → g.M.PathAccessModel.told l.fn.disk ≡ Some told → IsFixed told
       → Pending (limits_of l.fn.limits) told input l.n (ahead l.self.reader (g.S.LineSource.left l.source)) (g.M.PathAccessModel.told l.disk) (g.W.ByteSink.taken l.fn.sink) (g.W.ByteSink.taken l.sink) l.self.machine.live l.self.machine.views.items l.self.machine.tags;
   revision : top_revision l.self.machine.live l.self.machine.views.items ≤ 2 + l.n;
-  space : next_number l.self.machine.tags ≤ 3 + l.n;
+  number : next_number l.self.machine.tags ≤ 3 + l.n;
   reads : g.S.LineSource.faults l.fn.source ≤ g.S.LineSource.faults l.source;
   faults : g.W.ByteSink.faults l.fn.sink ≤ g.W.ByteSink.faults l.sink;
   dry : g.W.ByteSink.dry l.fn.sink ≤ g.W.ByteSink.dry l.sink;

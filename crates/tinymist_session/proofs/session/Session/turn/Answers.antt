@@ -9,6 +9,11 @@ use Rattle.tinymist_session.specs.Machine.{step}
 use Rattle.tinymist_session.proofs.Known.{append-nothing}
 use Rattle.tinymist_session.proofs.session.Session.turn.Goals as goal
 
+pub returns-in_err-command-clause-says : goal.returns-in_err-command-clause-says
+returns-in_err-command-clause-says g c = λ told s command is shown reads.
+    let p = err_from_is_err_and c.from_residual.result c.from_residual.ensures.1 in
+    rw p.1 (0, append-nothing (g.W.ByteSink.taken c.args.sink.now) (reply_line (step s told command).reply))
+
 pub returns-in_err-reply-clause-says : goal.returns-in_err-reply-clause-says
 returns-in_err-reply-clause-says g c = λ told s command is shown reads.
     let p = err_from_is_err_and c.from_residual-in_err-reply.result c.from_residual-in_err-reply.ensures.1 in

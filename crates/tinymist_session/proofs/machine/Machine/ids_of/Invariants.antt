@@ -2,7 +2,7 @@ use Rattle.std.proofs.Common.{◌≡◌, ◌++◌, map, drop}
 use Rattle.std.specs.Option.{option_map}
 use Rattle.tinymist_session.specs.Machine.{ids_for}
 use Rattle.tinymist_session.specs.Said.{id_said}
-use Rattle.tinymist_session.proofs.questions.Machine.ids_of.Given as goal
+use Rattle.tinymist_session.proofs.machine.Machine.ids_of.Given as goal
 
 abbrev pub invariant-loop-word : goal.invariant-loop-word
 invariant-loop-word l = ids_for l.self.tags.ids.items (map id_said l.words) ≡ option_map (λ rest. l.ids.items ++ rest) (ids_for l.self.tags.ids.items (map id_said (drop l.word-index l.words)))
