@@ -85,7 +85,10 @@ impl Version {
             Edit::MapPath(path, answer) => self.map_path(alloc, path.as_str(), answer),
             Edit::UnmapPath(path) => self.unmap_path(alloc, path.as_str(), stamp),
             Edit::MapId(id, answer) => self.map_id(alloc, id, answer),
-            Edit::UnmapId(id) => self.unmap_id(id),
+            Edit::UnmapId(id) => {
+                self.unmap_id(id);
+                Ok(())
+            }
             Edit::Clear => self.clear(alloc, stamp),
             Edit::Notify(changes) => self.notify(alloc, changes, stamp),
         }
@@ -132,13 +135,12 @@ impl Version {
     }
 
     /// Takes away what is mapped at an id, and stamps nothing.
-    fn unmap_id(&mut self, id: &FileId) -> Result<(), OutOfMemory>
-        ensures layers { (stamp : model.Stamp) (l : model.Layers) → layers_of self.old ≡ lists_of l → OnOk result (layers_of self.new ≡ lists_of (batch.applied stamp l (batch.UnmapId id.now))) }
+    fn unmap_id(&mut self, id: &FileId)
+        ensures layers { (stamp : model.Stamp) (l : model.Layers) → layers_of self.old ≡ lists_of l → layers_of self.new ≡ lists_of (batch.applied stamp l (batch.UnmapId id.now)) }
         ensures revision { self.new.revision ≡ self.old.revision }
         ensures reset { self.new.reset ≡ self.old.reset }
     {
         remove_id(&mut self.by_id, id);
-        Ok(())
     }
 
     /// Takes away all that is mapped, and drops the paths.
