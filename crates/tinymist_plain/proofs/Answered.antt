@@ -1,11 +1,11 @@
 -- What questions are answered, by what is kept of a state.
-use Rattle.std.proofs.Common.{◌≡◌, ℕ, ◌≤◌, ◌&&◌, Bool, true, cond, List, ◌∷◌, map, refl, sym, ap, ◌∙◌, Option, Some, None}
+use Rattle.std.proofs.Common.{◌≡◌, ℕ, ◌≤◌, ◌&&◌, Bool, true, cond, List, ◌∷◌, map, sym, ap, ◌∙◌, Some, None}
 use Rattle.std.proofs.lemmas.Bool.{le-leb}
 use Rattle.std.specs.Prelude.{nat_le}
 use Rattle.std.specs.FinMap as finmap
 use Rattle.ty_model.specs.Values.{Id, Answer}
 use Rattle.ty_model.specs.Version as model
-use Rattle.ty_model.specs.Places.{Resolver, place_of}
+use Rattle.ty_model.specs.Places.{place_of}
 use Rattle.ty_model.specs.Disk.{Told}
 use Rattle.ty_model.specs.Space.{Space as Whole}
 use Rattle.ty_model.specs.Standing.{are_clean}
@@ -19,7 +19,7 @@ use Rattle.tinymist_plain.specs.declared.state.State.{State}
 use Rattle.tinymist_plain.proofs.Edits.{latest_is}
 use Rattle.tinymist_plain.proofs.Looks.{looks}
 use Rattle.tinymist_plain.proofs.Clean.{cleans}
-use Rattle.tinymist_plain.proofs.Found.{view_found, space_found, space_missing, some_space, named_as, all_named_as, both_named}
+use Rattle.tinymist_plain.proofs.Found.{view_found, space_found, space_missing, named_as, all_named_as, both_named}
 
 abbrev reply : Stepped → Reply
 reply stepped = stepped.reply

@@ -7,8 +7,8 @@ use Rattle.ty_model.specs.Values.{Id, Answer}
 use Rattle.ty_model.specs.Places.{Place, At, Rootless, RefusedAt, place_of}
 use Rattle.ty_model.specs.Version as model
 use Rattle.ty_model.specs.Version.{Layers}
-use Rattle.ty_model.specs.LookUp.{Decision, Says, Asks, said_or, place_decision, answer_by, look}
-use Rattle.ty_model.specs.Standing.{AtPath, at_place_of, Entries, entries_at}
+use Rattle.ty_model.specs.LookUp.{Decision, Asks, said_or, place_decision, answer_by, look}
+use Rattle.ty_model.specs.Standing.{at_place_of, entries_at}
 use Rattle.ty_model.specs.Disk.{Told, IsFixed, answer_of}
 use Rattle.ty_model.proofs.DiskLaws.{fixed_stays}
 use Rattle.ty_path.specs.declared.memory.OutOfMemory.{OutOfMemory}
