@@ -1,5 +1,5 @@
 //! What is said of a file: its bytes or an error.
-ghost use Rattle.std.specs.Prelude.{◌≡◌, ◌↔◌, IsTrue, IfOk};
+ghost use Rattle.std.specs.Prelude.{◌≡◌, ◌↔◌, ℕ, List, IsTrue, IsOk, IfOk};
 ghost use Rattle.ty_model.specs.Values.{Answer, Content, Refused, NotFound, AccessDenied, same_answer};
 ghost use Rattle.ty_syntax.specs.Error.{refusal_of};
 
@@ -42,9 +42,14 @@ impl FileSnapshot {
         Ok(FileSnapshot(Err(Arc::new(alloc, error)?)))
     }
 
-    /// The bytes, or a copy of the error.
+    /// The bytes, which take no memory.
+    ///
+    /// # Errors
+    ///
+    /// A copy of the error, exactly where there is one.
     pub fn into_content(self, alloc: Global) -> FileResult<Bytes>
-        ensures { AnswersAs self result }
+        ensures answer { AnswersAs self result }
+        ensures free { (bytes : List ℕ) → self ≡ Content bytes → IsOk result }
     {
         match self.0 {
             Ok(bytes) => Ok(bytes),
@@ -52,13 +57,14 @@ impl FileSnapshot {
         }
     }
 
-    /// The bytes.
+    /// The bytes, which take no memory.
     ///
     /// # Errors
     ///
     /// A copy of the error, exactly where there is one.
     pub fn content(&self, alloc: Global) -> FileResult<&Bytes>
-        ensures { AnswersAsLent self.now result }
+        ensures answer { AnswersAsLent self.now result }
+        ensures free { (bytes : List ℕ) → self.now ≡ Content bytes → IsOk result }
     {
         match &self.0 {
             Ok(held) => Ok(held),
@@ -66,13 +72,14 @@ impl FileSnapshot {
         }
     }
 
-    /// True of bytes.
+    /// True of bytes, which take no memory.
     ///
     /// # Errors
     ///
     /// A copy of the error, exactly where there is one.
     pub fn is_file(&self, alloc: Global) -> FileResult<bool>
-        ensures { SaysFile self.now result }
+        ensures answer { SaysFile self.now result }
+        ensures free { (bytes : List ℕ) → self.now ≡ Content bytes → IsOk result }
     {
         match self.content(alloc) {
             Ok(_) => Ok(true),

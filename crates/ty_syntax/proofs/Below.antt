@@ -1,15 +1,15 @@
 -- Paths below a root: the way down to a path, and a path by its way down.
-use Rattle.std.proofs.Common.{◌≡◌, ◌≢◌, ℕ, Bool, true, false, cond, not, ◌&&◌, ◌||◌, eqb, true≢false, List, [], ◌∷◌, ◌++◌, map, filter, reverse, refl, sym, ap, ◌∙◌, subst, append_assoc, append-nil, bytes_eq, Option, Some, None, option_map, Ok, Err}
+use Rattle.std.proofs.Common.{◌≡◌, ℕ, true, false, cond, not, ◌&&◌, eqb, true≢false, List, [], ◌∷◌, ◌++◌, map, filter, reverse, refl, sym, ap, ◌∙◌, subst, append_assoc, append-nil, bytes_eq, Option, Some, None, Ok}
 use Rattle.std.specs.Prelude.{IsTrue, IsSome}
-use Rattle.std.specs.List.{list_any, list_all}
+use Rattle.std.specs.List.{list_any}
 use Rattle.std.proofs.lemmas.Bool.{and_parts, and_from, both_ways, eqb-true}
-use Rattle.std.proofs.lemmas.List.{map-append, reverse-append, reverse-reverse}
+use Rattle.std.proofs.lemmas.List.{reverse-append, reverse-reverse}
 use Rattle.std.proofs.lemmas.Slice.Eq.{bytes_eq-Decides}
-use Rattle.ty_model.specs.Paths.{Component, RootDir, CurDir, ParentDir, Normal, parts_at, dot, component_of, counts, counted, counted_after_dot, is_absolute, ends_in_slash, components, component_text, text_of, or_dot, is_up, kept_with, kept_of, cleaned, clean, same_component, after_front, join, apart, way, diff, without_dots, is_name, MayFollow, AllMayFollow, ArePath, AreUps, AreKept, without_slash, realize}
+use Rattle.ty_model.specs.Paths.{Component, RootDir, CurDir, ParentDir, Normal, parts_at, dot, component_of, counts, counted, counted_after_dot, is_absolute, ends_in_slash, components, text_of, or_dot, is_up, kept_of, cleaned, clean, same_component, after_front, join, apart, way, diff, without_dots, is_name, AllMayFollow, ArePath, AreUps, AreKept, realize}
 use Rattle.ty_model.proofs.PathLaws.{parts-slash, components-slash, components-path, components-text_of, path-kept, kept_again, cleaned-path, text_some, ArePath-from_follows, kept_of-append, clean-clean}
 use Rattle.ty_model.proofs.Cuts.{some_parts}
-use Rattle.ty_path.proofs.RelativeLaws.{same-true, cleaned_text, cleaned_to_nothing, absolute-cleaned, relative-cleaned, left_follows, way-path, apart-same, apart-other}
-use Rattle.ty_syntax.specs.Below.{leads_down, only_down, way_down, IsBelow, is_virtual, way_as_text, virtualized}
+use Rattle.ty_path.proofs.RelativeLaws.{same-true, cleaned_text, cleaned_to_nothing, absolute-cleaned, relative-cleaned, left_follows, way-path}
+use Rattle.ty_syntax.specs.Below.{leads_down, only_down, way_down, IsBelow, is_virtual, way_as_text}
 
 -- ---- names
 

@@ -4,7 +4,7 @@ use Rattle.std.proofs.lemmas.Bool.{eqb-true}
 use Rattle.std.specs.Prelude.{is_some}
 use Rattle.std.specs.Option.{option_map_or}
 use Rattle.std.specs.Str.{bytes_eq}
-use Rattle.ty_model.specs.Paths.{without_slash, components, counted, counted_after_dot, component_of, climbs_from, escapes, is_absolute, parts_at, dot, counts, CurDir, RootDir}
+use Rattle.ty_model.specs.Paths.{without_slash, counted, counted_after_dot, component_of, climbs_from, escapes, is_absolute, parts_at, dot, counts, CurDir, RootDir}
 
 -- a text that doesn't begin with a slash has none to lose
 pub without_none : (text : List ℕ) → ((rest : List ℕ) → text ≢ 47 ∷ rest) → text ≡ without_slash text

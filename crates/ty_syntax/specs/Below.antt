@@ -1,5 +1,5 @@
 -- Where a path stands below a root.
-use Rattle.std.specs.Prelude.{ℕ, Bool, true, false, if◌then◌else◌, List, [], ◌∷◌, ◌++◌, Option, Some, None, IsSome, Result, Ok, Err, IsTrue, ◌&&◌}
+use Rattle.std.specs.Prelude.{ℕ, Bool, true, false, if◌then◌else◌, List, [], ◌∷◌, ◌++◌, Option, Some, None, IsSome, Result, Ok, Err, ◌&&◌}
 use Rattle.std.specs.Str.{bytes_eq}
 use Rattle.ty_model.specs.Paths.{Component, Normal, components, cleaned, after_front, clean, text_of, is_absolute, has_nul, virtual_path, PathRefusal, Escapes, BadByte}
 

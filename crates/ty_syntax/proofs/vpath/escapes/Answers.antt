@@ -1,4 +1,4 @@
-use Rattle.std.proofs.Common.{◌≡◌, ℕ, List, [], sym, ap, ◌∙◌, arith, rules}
+use Rattle.std.proofs.Common.{ℕ, List, [], sym, ap, ◌∙◌, arith, rules}
 use Rattle.ty_model.specs.Paths.{counted, climbs_from}
 use Rattle.ty_syntax.proofs.Slashes.{climbs-parts, climbs-last}
 use Rattle.ty_syntax.proofs.vpath.escapes.Goals as goal

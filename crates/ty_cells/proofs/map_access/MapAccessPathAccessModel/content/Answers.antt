@@ -1,4 +1,4 @@
-use Rattle.std.proofs.Common.{◌≡◌, Some, subst}
+use Rattle.std.proofs.Common.{Some, subst}
 use Rattle.ty_model.specs.Disk.{Told}
 use Rattle.ty_cells.specs.Disk.{AnswersAsTold}
 use Rattle.ty_cells.specs.MapAccess.{told_by}

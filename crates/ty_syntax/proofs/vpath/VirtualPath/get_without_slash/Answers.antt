@@ -1,4 +1,3 @@
-use Rattle.std.proofs.Common.{◌≡◌}
 use Rattle.ty_syntax.proofs.Slashes.{without_none}
 use Rattle.ty_syntax.proofs.vpath.VirtualPath.get_without_slash.Goals as goal
 

@@ -1,6 +1,6 @@
 use Rattle.std.proofs.Common.{◌≡◌, ◌∷◌, true, cond, Err, Ok, option_map, subst, sym, ap, ◌∙◌}
 use Rattle.std.specs.String.{string_bytes}
-use Rattle.ty_model.specs.Paths.{components, clean, realize, BadByte}
+use Rattle.ty_model.specs.Paths.{components, realize, BadByte}
 use Rattle.ty_syntax.specs.Below.{leads_down, is_virtual, way_as_text, way_down}
 use Rattle.ty_syntax.proofs.Below.{no_difference, difference_up, difference-virtual, difference-realized, difference-text}
 use Rattle.ty_syntax.proofs.vpath.VirtualPath.virtualize.Goals as goal
