@@ -3,13 +3,15 @@ ghost use Rattle.std.specs.Prelude.{◌≡◌, ◌+◌, ◌≤◌, IfOk, OnErr, 
 ghost use Rattle.std.specs.FinMap as map;
 ghost use Rattle.ty_path.specs.Shared.{path_text};
 ghost use Rattle.tinymist_vfs.specs.Maps.{path_map};
-ghost use Rattle.tinymist_vfs.specs.Items.{item_of, items_of, file_of};
+ghost use Rattle.tinymist_vfs.specs.Items.{item_of, items_of};
+ghost use Rattle.tinymist_vfs.specs.ChangeSet.{removed_paths, inserted_files};
 ghost use Rattle.ty_model.specs.Version as plain;
 ghost use Rattle.ty_model.specs.Batch as change;
 
 use crate::item::{FileChangeSet, Item};
 use crate::stamp::Stamp;
 use crate::store::{put_id, put_path, take_id, take_path};
+use crate::told::change_told;
 use std::alloc::Global;
 use std::marker::Model;
 use std::sync::ledger::Ledger;
@@ -152,12 +154,11 @@ impl Layers {
         steps: &mut Steps<L>,
     ) -> Result<(), OutOfMemory>
         ensures { OnOk result (self.new ≡ record self.old {
-          told = change.inserted (change.removed self.old.told (list_map path_text set.now.removes.items)) (list_map file_of set.now.inserts.items);
-          drops = change.dropped stamp self.old.drops (list_map path_text set.now.removes.items);
+          told = change.inserted (change.removed self.old.told (removed_paths set.now)) (inserted_files set.now);
+          drops = change.dropped stamp self.old.drops (removed_paths set.now);
         }) }
     {
-        remove_all(&mut self.told, &set.removes, steps)?;
-        insert_all(alloc, &mut self.told, &set.inserts, steps)?;
+        change_told(alloc, &mut self.told, set, steps)?;
         drop_paths(alloc, &set.removes, &mut self.drops, stamp, steps)
     }
 
@@ -225,33 +226,6 @@ fn drop_keys<L: Ledger>(
 {
     for (path, _) in files.iter() {
         put_path(drops, path.share(alloc)?, stamp, steps)?;
-    }
-    Ok(())
-}
-
-fn remove_all<L: Ledger>(
-    told: &mut Map<ImmutPath, FileSnapshot>,
-    paths: &[ImmutPath],
-    steps: &mut Steps<L>,
-) -> Result<(), OutOfMemory>
-    ensures { OnOk result (path_map told.new.entries ≡ change.removed (path_map told.old.entries) (list_map path_text paths.now)) }
-{
-    for path in paths {
-        take_path(told, path, steps)?;
-    }
-    Ok(())
-}
-
-fn insert_all<L: Ledger>(
-    alloc: Global,
-    told: &mut Map<ImmutPath, FileSnapshot>,
-    files: &[(ImmutPath, FileSnapshot)],
-    steps: &mut Steps<L>,
-) -> Result<(), OutOfMemory>
-    ensures { OnOk result (path_map told.new.entries ≡ change.inserted (path_map told.old.entries) (list_map file_of files.now)) }
-{
-    for (path, snap) in files {
-        put_path(told, path.share(alloc)?, snap.share(alloc)?, steps)?;
     }
     Ok(())
 }

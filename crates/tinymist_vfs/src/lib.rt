@@ -19,6 +19,7 @@ mod same;
 mod shadows;
 mod stamp;
 mod store;
+mod told;
 mod uncounted;
 mod under;
 mod vfs;

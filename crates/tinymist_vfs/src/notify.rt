@@ -1,19 +1,17 @@
 //! Files that a watcher told, over another model.
-ghost use Rattle.std.specs.Prelude.{◌≡◌, ◌<◌, [], OnOk, OnErr, IfOk, map as list_map};
-ghost use Rattle.ty_path.specs.Shared.{path_text};
+ghost use Rattle.std.specs.Prelude.{◌≡◌, ◌<◌, [], OnOk, OnErr, IfOk};
 ghost use Rattle.ty_model.specs.Batch.{inserted, removed};
 ghost use Rattle.tinymist_vfs.specs.Maps.{path_map};
-ghost use Rattle.tinymist_vfs.specs.Items.{file_of};
 ghost use Rattle.tinymist_vfs.specs.ChangeSet.{removed_paths, inserted_files};
 
 use crate::item::FileChangeSet;
-use crate::store::{put_path, take_path};
+use crate::told::change_told;
 use crate::under::{content_under, holds_under};
 use std::alloc::Global;
 use std::marker::Brand;
 use std::sync::ledger::{Blank, Ledger};
 use ty_cells::{FileSnapshot, PathAccessModel};
-use ty_path::{ImmutPath, OutOfMemory, Share};
+use ty_path::{ImmutPath, OutOfMemory};
 use ty_persist::{Map, Steps};
 
 /// The told files over an inner model, which is asked only for what none of them has.
@@ -50,6 +48,7 @@ impl<N: Drop> NotifyAccessModel<N> {
     }
 }
 
+/// The files after a change set, as a share of their own.
 fn changed<L: Ledger>(
     alloc: Global,
     files: &Map<ImmutPath, FileSnapshot>,
@@ -63,36 +62,8 @@ fn changed<L: Ledger>(
 {
     let mut steps: Steps<L> = Steps::new(blank);
     let mut after = files.share(&mut steps)?;
-    remove_all(&mut after, &set.removes, &mut steps)?;
-    insert_all(alloc, &mut after, &set.inserts, &mut steps)?;
+    change_told(alloc, &mut after, set, &mut steps)?;
     Ok(after)
-}
-
-fn remove_all<L: Ledger>(
-    files: &mut Map<ImmutPath, FileSnapshot>,
-    paths: &[ImmutPath],
-    steps: &mut Steps<L>,
-) -> Result<(), OutOfMemory>
-    ensures { OnOk result (path_map files.new.entries ≡ removed (path_map files.old.entries) (list_map path_text paths.now)) }
-{
-    for path in paths {
-        take_path(files, path, steps)?;
-    }
-    Ok(())
-}
-
-fn insert_all<L: Ledger>(
-    alloc: Global,
-    files: &mut Map<ImmutPath, FileSnapshot>,
-    more: &[(ImmutPath, FileSnapshot)],
-    steps: &mut Steps<L>,
-) -> Result<(), OutOfMemory>
-    ensures { OnOk result (path_map files.new.entries ≡ inserted (path_map files.old.entries) (list_map file_of more.now)) }
-{
-    for (path, snap) in more {
-        put_path(files, path.share(alloc)?, snap.share(alloc)?, steps)?;
-    }
-    Ok(())
 }
 
 impl<N: PathAccessModel + Drop> PathAccessModel for NotifyAccessModel<N> {
