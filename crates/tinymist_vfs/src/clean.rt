@@ -136,6 +136,7 @@ impl<R: RootResolver> Vfs<R> {
         ensures space { self.new.held.space ≡ self.old.held.space }
         ensures revision { IfOk result (λ n. n ≡ self.new.held.revision) }
         ensures standing { (past : List plain.Version) → Standing R.known self.old past → OnOk result (Standing R.known self.new (version_of R.known self.old ∷ past)) }
+        ensures resolver { OnOk result (self.new.resolver ≡ resolver) }
         ensures err { IfErr result (λ e. (self.new ≡ self.old) × (e.0 ≡ resolver)) }
         ensures full { IsErr result ↔ (self.old.held.revision ≡ 2 ^ 64 - 1) }
     {
@@ -149,6 +150,7 @@ impl<R: RootResolver> Vfs<R> {
         self.resolver = resolver;
         Ok(self.revision)
     }
+
     /// Lets the disk forget what it keeps to answer faster, and changes nothing else.
     pub fn reset_access_model<M: PathAccessModel>(&self, cells: &mut OwnCells<'_, M>)
         ensures same_disk { cells.new.disk.ghost_name ≡ cells.old.disk.ghost_name }

@@ -29,11 +29,11 @@ pub use access::{AccessModel, ResolveAccessModel};
 pub use deps::NotifyDeps;
 pub use display::Resolving;
 pub use event::{FilesystemEvent, MemoryEvent, NotifyMessage, UpstreamUpdateEvent};
-pub use item::{FileChangeSet, Item};
+pub use item::FileChangeSet;
 pub use notify::NotifyAccessModel;
 pub use overlay::OverlayAccessModel;
 pub use resolver::{MockRootResolver, PathResolution, RootResolver, WORKSPACE_NS};
-pub use revise::{Batch, HoldsVfs, ReviseFault, RevisingVfs};
+pub use revise::{HoldsVfs, ReviseFault, RevisingVfs};
 pub use vfs::Vfs;
 pub use workspace::{WorkspaceId, WorkspaceResolution, WorkspaceResolver};
 

@@ -1,5 +1,5 @@
 //! Files over another model.
-ghost use Rattle.std.specs.Prelude.{◌≡◌, [], OnOk, OnErr, IfOk, map};
+ghost use Rattle.std.specs.Prelude.{◌≡◌, [], IsSome, OnOk, OnErr, IfOk, map};
 ghost use Rattle.std.specs.Borrow.{Lends, sem};
 ghost use Rattle.std.specs.Map.{remove_entry};
 ghost use Rattle.std.specs.BTreeMap.{is_at};
@@ -96,13 +96,20 @@ impl<K: Ord + Share, N: Drop> OverlayAccessModel<K, N> {
 
 impl<N: PathAccessModel + Drop> PathAccessModel for OverlayAccessModel<ImmutPath, N> {
     ghost use Rattle.std.specs.Prelude.{◌≡◌};
+    ghost use Rattle.std.specs.Map.{lookup};
+    ghost use Rattle.ty_persist.specs.Texts.{is_text};
+    ghost use Rattle.ty_cells.specs.Disk.{AnswersAsTold};
     ghost use Rattle.tinymist_vfs.specs.Under.{tells_under};
 
     ghost told = { λ s. tells_under s.files.entries (N.told s.inner) };
 
     ghost reset_gives = { λ before after. (after.files ≡ before.files) × N.reset_gives before.inner after.inner };
 
-    fn content(&mut self, alloc: Global, path: &str) -> Result<FileSnapshot, OutOfMemory> {
+    /// What the files say of a path, and else what the inner model says, which isn't asked where they do.
+    fn content(&mut self, alloc: Global, path: &str) -> Result<FileSnapshot, OutOfMemory>
+        ensures answer { AnswersAsTold (tells_under self.old.files.entries (N.told self.old.inner)) path.now result (tells_under self.new.files.entries (N.told self.new.inner)) }
+        ensures untouched { IsSome (lookup (is_text path.now) self.old.files.entries) → self.new ≡ self.old }
+    {
         content_under(alloc, &self.files, &mut self.inner, path)
     }
 

@@ -1,7 +1,7 @@
 //! A read of an id, and its source: what the layers decide, else what the disk says.
 ghost use Rattle.std.specs.Prelude.{◌≡◌, ◌⊎◌, IfOk, Option};
 ghost use Rattle.ty_path.specs.Shared.{path_text};
-ghost use Rattle.ty_model.specs.Values.{Content};
+ghost use Rattle.ty_model.specs.Values.{Answer, Content};
 ghost use Rattle.ty_model.specs.LookUp as plain;
 ghost use Rattle.ty_model.specs.Disk.{Told};
 ghost use Rattle.ty_model.specs.Held.{version_of};
@@ -60,7 +60,8 @@ impl<R: RootResolver> Vfs<R> {
         }
     }
 
-    /// The bytes of an id: the overlay by id, else by its path, else the told file, else the disk.
+    /// The bytes of an id: the overlay by id, else by its path, else the told file, else the disk, which is
+    /// asked for nothing else.
     ///
     /// # Errors
     ///
@@ -73,6 +74,7 @@ impl<R: RootResolver> Vfs<R> {
     ) -> FileResult<Bytes>
         ensures same_disk { cells.new.disk.ghost_name ≡ cells.old.disk.ghost_name }
         ensures read { ReadsAsTold (plain.decision (version_of R.known self.now) id.now) (M.told cells.old.disk.now) result (M.told cells.new.disk.now) }
+        ensures untouched { (answer : Answer) → plain.decision (version_of R.known self.now) id.now ≡ plain.Says answer → cells.new.disk.now ≡ cells.old.disk.now }
     {
         match self.decide(id)? {
             Decision::Says(snap) => snap.into_content(self.alloc),
@@ -93,6 +95,7 @@ impl<R: RootResolver> Vfs<R> {
     ) -> FileResult<Source>
         ensures same_disk { cells.new.disk.ghost_name ≡ cells.old.disk.ghost_name }
         ensures read { SourcesAsTold (plain.decision (version_of R.known self.now) id.now) id.now (M.told cells.old.disk.now) result (M.told cells.new.disk.now) }
+        ensures untouched { (answer : Answer) → plain.decision (version_of R.known self.now) id.now ≡ plain.Says answer → cells.new.disk.now ≡ cells.old.disk.now }
     {
         let bytes = self.read(cells, id)?;
         source_with(self.alloc, id, &bytes)

@@ -18,6 +18,8 @@ use std::sync::ledger::{Blank, Ledger};
 use ty_persist::Steps;
 use ty_syntax::{TagFault, Tags};
 
+/// Layers of files with a revision: an overlay by id, an overlay by path, and the files that a watcher told,
+/// over a disk that is lent to each read. A resolver tells the paths of ids.
 #[derive(Drop)]
 pub struct Vfs<R> {
     pub(crate) alloc: Global,
@@ -43,12 +45,14 @@ impl<R> Model for Vfs<R> {
 }
 
 impl<R> Vfs<R> {
+    /// The revision, which is 2 at first and rises with each commit that changes something, and each reset.
     pub fn revision(&self) -> u64
         ensures { result ≡ self.now.held.revision }
     {
         self.revision
     }
 
+    /// The number of the space: another one for each `Vfs` that is made with the same tags.
     pub fn space(&self) -> u64
         ensures { result ≡ self.now.held.space }
     {
@@ -121,6 +125,7 @@ impl<R: RootResolver> Vfs<R> {
     pub fn new(alloc: Global, resolver: R, tags: &mut Tags) -> Result<Vfs<R>, TagFault>
         ensures space { IfOk result (λ v. v.held.space ≡ tags.old.next_space) }
         ensures version { IfOk result (λ v. version_of R.known v ≡ first_version v.held.space (R.known resolver)) }
+        ensures resolver { IfOk result (λ v. v.resolver ≡ resolver) }
         ensures changes { IfOk result (λ v. v.held.changes ≡ no_changes) }
         ensures standing { IfOk result (λ v. Standing R.known v []) }
         ensures tags { OnOk result (tags.new ≡ record tags.old { next_space = tags.old.next_space + 1 }) }
@@ -171,6 +176,7 @@ impl<R: RootResolver> Vfs<R> {
             resolver,
         })
     }
+
     /// The same layers under a fresh space number, as one version without a past: nothing was dropped yet,
     /// and nothing changed since.
     pub fn fork<L: Ledger>(&self, tags: &mut Tags, steps: &mut Steps<L>) -> Result<Vfs<R>, TagFault>
