@@ -89,11 +89,12 @@ fn path_below(alloc: Global, root: Root) -> Result<FileResult<String>, Fail> {
 }
 
 /// The root of `a.typ` below a root, where there is one.
-fn root_text(alloc: Global, root: Root) -> Result<Option<String>, Fail> {
+fn root_text(alloc: Global, root: Root) -> Result<FileResult<Option<String>>, Fail> {
     let id = id_below(alloc, root)?;
     match MockRootResolver.resolve_root(alloc, &id) {
-        Ok(Some(path)) => Ok(Some(String::from_str(alloc, path.as_str())?)),
-        _ => Ok(None),
+        Ok(Some(path)) => Ok(Ok(Some(String::from_str(alloc, path.as_str())?))),
+        Ok(None) => Ok(Ok(None)),
+        Err(fault) => Ok(Err(fault)),
     }
 }
 
@@ -125,13 +126,13 @@ fn roots_have_paths(rt: HostRuntime) -> Result<(), Fail> {
 fn roots_are_those_of_ids(rt: HostRuntime) -> Result<(), Fail> {
     let alloc = rt.alloc();
     let folder = Root::Workspace(String::from_str(alloc, "/w/./b/..")?);
-    assert_eq!(rt; root_text(alloc, folder)?.as_deref(), Some("/w"));
+    assert_eq!(rt; root_text(alloc, folder)??.as_deref(), Some("/w"));
     let untitled = Root::UntitledRooted(String::from_str(alloc, "/w/")?);
-    assert_eq!(rt; root_text(alloc, untitled)?.as_deref(), Some("/w"));
-    assert_eq!(rt; root_text(alloc, Root::Project)?.as_deref(), None);
+    assert_eq!(rt; root_text(alloc, untitled)??.as_deref(), Some("/w"));
+    assert_eq!(rt; root_text(alloc, Root::Project)?, Ok(None));
     assert_eq!(rt;
-        root_text(alloc, Root::Package(package(alloc, "ws")?))?.as_deref(),
-        None
+        root_text(alloc, Root::Package(package(alloc, "ws")?))?,
+        Err(FileFault::File(FileError::Other(None)))
     );
     Ok(())
 }
@@ -181,10 +182,47 @@ fn workspaces_make_ids(rt: HostRuntime) -> Result<(), Fail> {
         WorkspaceResolver::workspace_id(alloc, "/w/.")?.path(),
         "/w"
     );
-    match WorkspaceResolver::resolve(alloc, &file)? {
-        WorkspaceResolution::Workspace(workspace) => assert_eq!(rt; workspace.path(), "/w"),
-        _ => assert!(rt; false, "another kind"),
+    let loose = WorkspaceResolver::rooted_untitled(alloc, None, below(alloc)?, &mut tags)?;
+    assert!(rt; *loose.root() == Root::Project);
+    assert_eq!(rt; loose.tag(), 5);
+    Ok(())
+}
+
+/// The kind of an id below a root, as a text.
+fn kind_of(alloc: Global, root: Root) -> Result<FileResult<String>, Fail> {
+    let id = id_below(alloc, root)?;
+    match WorkspaceResolver::resolve(alloc, &id) {
+        Ok(WorkspaceResolution::Workspace(folder)) => {
+            Ok(Ok(format!(in alloc; "of {}", folder.path())?))
+        }
+        Ok(WorkspaceResolution::UntitledRooted(folder)) => {
+            Ok(Ok(format!(in alloc; "untitled of {}", folder.path())?))
+        }
+        Ok(WorkspaceResolution::Rootless) => Ok(Ok(String::from_str(alloc, "of none")?)),
+        Ok(WorkspaceResolution::Package) => Ok(Ok(String::from_str(alloc, "of a package")?)),
+        Err(fault) => Ok(Err(fault)),
     }
+}
+
+#[test]
+fn ids_stand_in_workspaces_and_packages(rt: HostRuntime) -> Result<(), Fail> {
+    let alloc = rt.alloc();
+    let folder = Root::Workspace(String::from_str(alloc, "/w/.")?);
+    assert_eq!(rt; kind_of(alloc, folder)??.as_str(), "of /w");
+    let untitled = Root::UntitledRooted(String::from_str(alloc, "/w")?);
+    assert_eq!(rt; kind_of(alloc, untitled)??.as_str(), "untitled of /w");
+    assert_eq!(rt; kind_of(alloc, Root::Project)??.as_str(), "of none");
+    let known = Root::Package(package(alloc, "preview")?);
+    assert_eq!(rt; kind_of(alloc, known)??.as_str(), "of a package");
+    assert_eq!(rt;
+        kind_of(alloc, Root::Package(package(alloc, "ws")?))?,
+        Err(FileFault::File(FileError::Other(None)))
+    );
+    let known = id_below(alloc, Root::Package(package(alloc, "preview")?))?;
+    let named = id_below(alloc, Root::Package(package(alloc, "ws")?))?;
+    assert!(rt; WorkspaceResolver::is_package_file(&known));
+    assert!(rt; !WorkspaceResolver::is_package_file(&named));
+    assert!(rt; !WorkspaceResolver::is_workspace_file(&named));
     Ok(())
 }
 
@@ -209,6 +247,22 @@ fn change_sets_grow(rt: HostRuntime) -> Result<(), Fail> {
     assert_eq!(rt;
         (set.inserts.len(), upstream.is_none(), is_sync),
         (2, true, true)
+    );
+    let event = FilesystemEvent::UpstreamUpdate {
+        changeset: set,
+        upstream_event: Some(UpstreamUpdateEvent {
+            invalidates: vec![in alloc; path(alloc, "/a")?]?,
+            opaque: 7,
+        }),
+    };
+    let (set, upstream, is_sync) = event.split_with_is_sync();
+    assert_eq!(rt;
+        (
+            set.removes.len(),
+            upstream.map(|event| event.opaque),
+            is_sync
+        ),
+        (1, Some(7), false)
     );
     let none = Vec::new(alloc);
     assert!(rt; FileChangeSet::new_inserts(alloc, none).is_empty());
@@ -254,6 +308,12 @@ fn files_stand_over_a_disk(rt: HostRuntime) -> Result<(), Fail> {
         over.content(alloc, "/w/a.typ")?
             .same_as(&holding(alloc, "told")?)
     );
+    let removed = vec![in alloc; path(alloc, "/w/a.typ")?]?;
+    over.inner_mut()
+        .notify(FileChangeSet::new_removes(alloc, removed))?;
+    let denied = FileSnapshot::from_error(alloc, FileError::AccessDenied)?;
+    assert!(rt; over.content(alloc, "/w/a.typ")?.same_as(&denied));
+    assert!(rt; over.inner().holds("/w/b.typ", &holding(alloc, "told")?));
     Ok(())
 }
 

@@ -103,5 +103,8 @@ fn the_system_tells_of_its_folders(rt: HostRuntime) -> Result<(), Fail> {
         Err(FileFault::File(FileError::IsDirectory))
     );
     assert!(rt; missing.read(alloc, &rt)?.is_missing("/no/such/file"));
+    let system = SystemAccessModel::new(rt);
+    assert!(rt; system.stat("/").is_ok_and(|meta| meta.is_dir));
+    assert!(rt; system.stat("/no/such/file").is_err());
     Ok(())
 }

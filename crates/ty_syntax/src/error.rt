@@ -8,32 +8,50 @@ use crate::spec::{PackageSpec, PackageVersion};
 use std::alloc::Global;
 use ty_path::{OutOfMemory, Share};
 
+/// What is wrong with a package.
 #[derive(Debug, PartialEq, Eq, Drop)]
 pub enum PackageError {
+    /// No such package is known.
     NotFound(PackageSpec),
+    /// The package is known, but not in this version; the latest one that is.
     VersionNotFound(PackageSpec, PackageVersion),
+    /// It could not be fetched, with a word on why if there is one.
     NetworkFailed(Option<String>),
+    /// What was fetched is no package, with a word on why if there is one.
     MalformedArchive(Option<String>),
+    /// Anything else, with a word on it if there is one.
     Other(Option<String>),
 }
 
+/// What is wrong with a file. This is an answer of a layer or a disk like any other.
 #[derive(Debug, PartialEq, Eq, Drop)]
 pub enum FileError {
+    /// There is no file at this path.
     NotFound(String),
+    /// The file may not be read, or has no path at which it could be.
     AccessDenied,
+    /// There is a folder where a file should be.
     IsDirectory,
+    /// The file is no source, and should be one.
     NotSource,
+    /// The file is not UTF-8, and should be.
     InvalidUtf8,
+    /// The file's package is refused.
     Package(PackageError),
+    /// Anything else, with a word on it if there is one.
     Other(Option<String>),
 }
 
+/// Why there is no file: what is wrong with it, or that it could not be said.
 #[derive(Debug, PartialEq, Eq, Drop)]
 pub enum FileFault {
+    /// Something is wrong with the file.
     File(FileError),
+    /// No memory was left.
     OutOfMemory,
 }
 
+/// A file, or part of one, or why there is none.
 pub type FileResult<T> = Result<T, FileFault>;
 
 impl From<OutOfMemory> for FileFault {

@@ -117,18 +117,21 @@ impl FileId {
         })
     }
 
+    /// What the virtual path stands below; a folder is cleaned.
     pub fn root(&self) -> &Root
         ensures { root_of result.now ≡ self.now.root }
     {
         &self.parts.root
     }
 
+    /// The virtual path below the root.
     pub fn vpath(&self) -> &VirtualPath
         ensures { result.now ≡ self.now.vpath }
     {
         &self.parts.vpath
     }
 
+    /// The tag: 0 of an interned id, and else a number that no other id of the same tags has.
     pub fn tag(&self) -> u64
         ensures { result ≡ self.now.tag }
     {

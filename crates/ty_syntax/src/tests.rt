@@ -158,21 +158,45 @@ fn realized_paths(rt: HostRuntime) -> Result<(), Fail> {
     Ok(())
 }
 
-/// Ids from the least to the greatest: by the root, and then by the virtual path.
-fn ids_in_order(alloc: Global) -> Result<Vec<FileId>, Fail> {
-    let folder = String::from_str(alloc, "/w/./a/..")?;
-    let other = String::from_str(alloc, "/x")?;
-    let roots = [
+/// A package of this name and patch version.
+fn package(alloc: Global, name: &str, patch: u32) -> Result<Root, Fail> {
+    Ok(Root::Package(PackageSpec {
+        namespace: String::from_str(alloc, "preview")?,
+        name: String::from_str(alloc, name)?,
+        version: PackageVersion {
+            major: 0,
+            minor: 1,
+            patch,
+        },
+    }))
+}
+
+/// Roots from the least to the greatest.
+fn roots_in_order(alloc: Global) -> Result<Vec<Root>, Fail> {
+    Ok(vec![in alloc;
         Root::Project,
-        Root::Workspace(folder),
-        Root::Workspace(other),
-    ];
+        Root::Workspace(String::from_str(alloc, "/w/./a/..")?),
+        Root::Workspace(String::from_str(alloc, "/x")?),
+        Root::UntitledRooted(String::from_str(alloc, "/a")?),
+        package(alloc, "a", 2)?,
+        package(alloc, "a", 10)?,
+        package(alloc, "b", 0)?,
+    ]?)
+}
+
+/// Ids from the least to the greatest: by the root, then by the virtual path, and then by the tag.
+fn ids_in_order(alloc: Global) -> Result<Vec<FileId>, Fail> {
     let mut ids = Vec::new(alloc);
-    for root in roots {
-        let Ok(below) = VirtualPath::new(alloc, "a.typ") else {
-            return Ok(ids);
-        };
-        ids.push(FileId::intern(alloc, root, below)?)?;
+    let mut tags = Tags::new();
+    for root in roots_in_order(alloc)? {
+        ids.push(FileId::intern(alloc, root, VirtualPath::new(alloc, "a.typ")?)?)?;
+    }
+    for root in roots_in_order(alloc)?.into_iter().skip(6) {
+        let last = FileId::unique(alloc, root, VirtualPath::new(alloc, "a.typ")?, &mut tags)?;
+        ids.push(last)?;
+    }
+    for root in roots_in_order(alloc)?.into_iter().skip(6) {
+        ids.push(FileId::intern(alloc, root, VirtualPath::new(alloc, "b.typ")?)?)?;
     }
     Ok(ids)
 }
@@ -181,10 +205,8 @@ fn ids_in_order(alloc: Global) -> Result<Vec<FileId>, Fail> {
 fn ids_are_ordered_by_their_parts(rt: HostRuntime) -> Result<(), Fail> {
     let ids = ids_in_order(rt.alloc())?;
     let again = ids_in_order(rt.alloc())?;
-    assert_eq!(rt; ids.len(), 3);
+    assert_eq!(rt; ids.len(), 9);
     for (place, id) in ids.iter().enumerate() {
-        assert_eq!(rt; id.vpath().get_with_slash(), "/a.typ");
-        assert_eq!(rt; id.tag(), 0);
         for (other_place, other) in again.iter().enumerate() {
             assert!(rt; id.cmp(other) == place.cmp(&other_place));
             assert_eq!(rt; id == other, place == other_place);
