@@ -37,6 +37,7 @@ pub record Listed : Type 0 where
 abbrev pub lists_of : model.Layers → Lists
 lists_of l = record { by_id = finmap.entries l.by_id; by_path = finmap.entries l.by_path; told = finmap.entries l.told; drops = finmap.entries l.drops }
 
+-- a version of the definition as lists
 abbrev pub listed : model.Version → Listed
 listed v = record { revision = v.revision; layers = lists_of v.layers; reset = v.reset; resolver = v.resolver }
 
@@ -44,6 +45,7 @@ listed v = record { revision = v.revision; layers = lists_of v.layers; reset = v
 abbrev pub layers_of : Version → Lists
 layers_of v = record { by_id = id_pairs v.by_id.items; by_path = pairs v.by_path.items; told = pairs v.told.items; drops = pairs v.drops.items }
 
+-- a version of the plain program as lists
 abbrev pub version_of : Version → Listed
 version_of v = record { revision = v.revision; layers = layers_of v; reset = v.reset; resolver = finmap.empty }
 
@@ -125,6 +127,7 @@ abbrev pub highest : List Space → ℕ
 highest [] = 0
 highest (s ∷ ss) = max s.latest.revision (highest ss)
 
+-- the greatest revision of all spaces
 abbrev pub top_revision : State → ℕ
 top_revision p = max p.live.latest.revision (highest p.views.items)
 

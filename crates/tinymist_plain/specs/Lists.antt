@@ -14,6 +14,7 @@ use Rattle.tinymist_plain.specs.declared.ids.IdEntry.{IdEntry}
 abbrev pub pair_of : {A : Type 0} → Entry A → List ℕ × A
 pair_of e = (string_bytes e.path, e.value)
 
+-- entries as pairs of a path and what stands at it
 abbrev pub pairs : {A : Type 0} → List (Entry A) → List (List ℕ × A)
 pairs entries = map pair_of entries
 
@@ -42,6 +43,7 @@ IsPlace {A} path entries (Err i) = (i ≤ length entries) × ((value : A) → pu
 abbrev pub id_pair : IdEntry → Id × Answer
 id_pair e = (e.id, e.answer)
 
+-- entries as pairs of an id and what stands at it
 abbrev pub id_pairs : List IdEntry → List (Id × Answer)
 id_pairs entries = map id_pair entries
 

@@ -25,10 +25,12 @@ files_in (Some files) = files.items
 
 -- ---- events
 
+-- the change set of an event
 abbrev pub set_of : FilesystemEvent → FileChangeSet
 set_of (Update set sync) = set
 set_of (UpstreamUpdate set upstream) = set
 
+-- the upstream event that an event answers, if there is one
 abbrev pub upstream_of : FilesystemEvent → Option UpstreamUpdateEvent
 upstream_of (Update set sync) = None
 upstream_of (UpstreamUpdate set upstream) = upstream

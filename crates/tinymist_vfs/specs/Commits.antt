@@ -5,6 +5,7 @@ use Rattle.ty_model.specs.Standing.{Held}
 use Rattle.ty_model.specs.Touched.{commit_held}
 use Rattle.ty_model.specs.Held.{Kept}
 
+-- what is kept, with this held in it
 abbrev pub put_held : {R : Type 0} → Kept R → Held → Kept R
 put_held k h = record k { held = h }
 

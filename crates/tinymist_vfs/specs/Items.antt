@@ -8,6 +8,7 @@ use Rattle.tinymist_vfs.specs.Maps.{Path}
 use Rattle.tinymist_vfs.specs.declared.item.Item.{Item}
 use Rattle.tinymist_vfs.specs.declared.item.Item.TheVariants.{MapPath, UnmapPath, MapId, UnmapId, Clear, ChangeSet, ChangeView}
 
+-- a file as its path and what it has
 abbrev pub file_of : Path × Answer → List ℕ × Answer
 file_of f = (path_text f.0, f.1)
 
@@ -15,9 +16,11 @@ file_of f = (path_text f.0, f.1)
 abbrev pub clean_text : Path → List ℕ
 clean_text path = clean (path_text path)
 
+-- a file under its cleaned path
 abbrev pub clean_file : Path × Answer → List ℕ × Answer
 clean_file f = (clean_text f.0, f.1)
 
+-- an item as plain data
 abbrev pub item_of : Item → change.Item
 item_of (MapPath path answer) = change.MapPath (path_text path) answer
 item_of (UnmapPath path) = change.UnmapPath (path_text path)
@@ -27,6 +30,7 @@ item_of Clear = change.Clear
 item_of (ChangeSet set) = change.ChangeSet (map path_text set.removes.items) (map file_of set.inserts.items)
 item_of ChangeView = change.ChangeView
 
+-- the items of a batch as plain data
 abbrev pub items_of : List Item → List change.Item
 items_of items = map item_of items
 

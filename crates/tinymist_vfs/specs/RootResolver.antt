@@ -36,16 +36,19 @@ path_in (resolution.Rootless vpath) = Err (File AccessDenied)
 
 -- ---- the root of an id
 
+-- a root that there is, or why there is none
 abbrev pub some_root : Result (List ℕ) Refusal → Result (Option (List ℕ)) Refusal
 some_root (Ok root) = Ok (Some root)
 some_root (Err refusal) = Err refusal
 
+-- the folder that a root stands for, if there is one, or why its package is refused
 abbrev pub root_in : Resolver → Root → Result (Option (List ℕ)) Refusal
 root_in resolver Project = Ok None
 root_in resolver (Workspace root) = Ok (Some root)
 root_in resolver (UntitledRooted root) = Ok (Some root)
 root_in resolver (Package spec) = if is_workspace_spec spec then Err (Other None) else some_root (package_root resolver spec)
 
+-- the same of the root of an id
 abbrev pub root_of_id : Resolver → Id → Result (Option (List ℕ)) Refusal
 root_of_id resolver id = root_in resolver id.root
 

@@ -12,9 +12,11 @@ abbrev pub file_at : List (List ℕ × Answer) → List ℕ → Option Answer
 file_at [] path = None
 file_at (f ∷ fs) path = if bytes_eq f.0 path then Some f.1 else file_at fs path
 
+-- a file as its path with one answer
 abbrev pub one_answer : List ℕ × Answer → List ℕ × List Answer
 one_answer f = (f.0, f.1 ∷ [])
 
+-- none of these files is at the path
 abbrev pub has_none : List (List ℕ × Answer) → List ℕ → Bool
 has_none files path = not (is_some (file_at files path))
 

@@ -28,6 +28,7 @@ kind_in (plain.Workspace root) = Ok (InWorkspace root)
 kind_in (plain.UntitledRooted root) = Ok (Untitled root)
 kind_in (plain.Package spec) = if is_workspace_spec spec then Err (plain.Other None) else Ok InPackage
 
+-- what is answered of an id, as a kind
 abbrev pub kind_of : WorkspaceResolution → Kind
 kind_of (Workspace id) = InWorkspace (path_text id.root)
 kind_of (UntitledRooted id) = Untitled (path_text id.root)
@@ -40,12 +41,14 @@ SaysKind kind (Ok resolution) = kind ≡ Ok (kind_of resolution)
 SaysKind kind (Err (File error)) = kind ≡ Err (refusal_of error)
 SaysKind kind (Err OutOfMemory) = ⊤
 
+-- the root is a workspace, with a path or without
 abbrev pub is_workspace_root : Root → Bool
 is_workspace_root plain.Project = false
 is_workspace_root (plain.Workspace root) = true
 is_workspace_root (plain.UntitledRooted root) = true
 is_workspace_root (plain.Package spec) = false
 
+-- the root is a package that names no files of a workspace
 abbrev pub is_package_root : Root → Bool
 is_package_root plain.Project = false
 is_package_root (plain.Workspace root) = false
@@ -64,6 +67,7 @@ abbrev pub counted_in : Option (List ℕ) → Counters → Counters
 counted_in (Some root) tags = tags
 counted_in None tags = record tags { next_id = tags.next_id + 1 }
 
+-- the root of an untitled file: in a workspace, if there is one
 abbrev pub untitled_in : Option (List ℕ) → Root
 untitled_in (Some root) = plain.UntitledRooted root
 untitled_in None = plain.Project
@@ -81,6 +85,7 @@ text_in (plain.Workspace root) vpath = realize root vpath
 text_in (plain.UntitledRooted root) vpath = without_slash vpath
 text_in (plain.Package spec) vpath = spec_text spec ++ vpath
 
+-- an id as a text for people; there may be none
 abbrev pub id_text : Option Id → List ℕ
 id_text None = codes "unresolved-path"
 id_text (Some id) = text_in id.root id.vpath

@@ -12,7 +12,7 @@ ghost use Rattle.ty_path.specs.Shared.{path_text};
 ghost use Rattle.tinymist_vfs.specs.Commits.{put_held, is_full};
 ghost use Rattle.ty_model.specs.Touched.{commit_held};
 ghost use Rattle.ty_model.specs.Places.{Resolver};
-ghost use Rattle.ty_model.specs.Standing.{Stands, past_after, version_with};
+ghost use Rattle.ty_model.specs.Standing.{IsCommit, Stands, past_after, version_with};
 
 use crate::event::FilesystemEvent;
 use crate::item::{FileChangeSet, Item};
@@ -275,7 +275,8 @@ impl<'a, R, H: HoldsVfs<R>> RevisingVfs<'a, R, H> {
     }
 
     /// Commits the batch, and answers the revision, which rises by one exactly where something in the
-    /// version differs or the view was changed.
+    /// version differs or the view was changed. The version is then that of the definition's commit, and the
+    /// change revision of each id and path that became other is the new revision (`commit`).
     ///
     /// # Errors
     ///
@@ -283,6 +284,7 @@ impl<'a, R, H: HoldsVfs<R>> RevisingVfs<'a, R, H> {
     /// is then as before.
     pub fn finish(self) -> Result<u64, ReviseFault>
         ensures ok { IfOk result (λ n. (self.exit.0.now ≡ H.with_held self.entry.holder.now (commit_held (H.kept self.entry.holder.now).held (gathered self.entry.batch.items self.entry.changes_view))) × (n ≡ (commit_held (H.kept self.entry.holder.now).held (gathered self.entry.batch.items self.entry.changes_view)).revision)) }
+        ensures commit { IsCommit (H.kept self.entry.holder.now).held (gathered self.entry.batch.items self.entry.changes_view) (commit_held (H.kept self.entry.holder.now).held (gathered self.entry.batch.items self.entry.changes_view)) }
         ensures err { OnErr result (self.exit.0.now ≡ self.entry.holder.now) }
         ensures full { IsErrOf result ReviseFault.Full → is_full (H.kept self.entry.holder.now).held (gathered self.entry.batch.items self.entry.changes_view) }
         ensures exact { is_full (H.kept self.entry.holder.now).held (gathered self.entry.batch.items self.entry.changes_view) → IsErr result }

@@ -16,6 +16,7 @@ abbrev pub answers_in : List (List ℕ × List Answer) → Rest → List ℕ →
 answers_in [] rest path = rest_says rest path ∷ []
 answers_in (f ∷ fs) rest path = if bytes_eq f.0 path then f.1 else answers_in fs rest path
 
+-- the answers of a path that are still to come, on a disk
 abbrev pub answers_at : Told → List ℕ → List Answer
 answers_at told path = answers_in told.files told.rest path
 

@@ -22,10 +22,12 @@ abbrev pub dropped : Stamp → map.FinMap text_cmp Stamp → List (List ℕ) →
 dropped stamp m [] = m
 dropped stamp m (path ∷ paths) = dropped stamp (map.insert m path stamp) paths
 
+-- the told files without these paths
 abbrev pub removed : map.FinMap text_cmp Answer → List (List ℕ) → map.FinMap text_cmp Answer
 removed m [] = m
 removed m (path ∷ paths) = removed (map.remove m path) paths
 
+-- the told files with these, of which the last of a path stands
 abbrev pub inserted : map.FinMap text_cmp Answer → List (List ℕ × Answer) → map.FinMap text_cmp Answer
 inserted m [] = m
 inserted m (f ∷ fs) = inserted (map.insert m f.0 f.1) fs
@@ -40,14 +42,17 @@ applied stamp l Clear = record l { by_id = map.empty; by_path = map.empty; drops
 applied stamp l (ChangeSet removes inserts) = record l { told = inserted (removed l.told removes) inserts; drops = dropped stamp l.drops removes }
 applied stamp l ChangeView = l
 
+-- all items in their order
 abbrev pub applied_all : Stamp → Layers → List Item → Layers
 applied_all stamp l [] = l
 applied_all stamp l (item ∷ items) = applied_all stamp (applied stamp l item) items
 
+-- the item is a change of view
 abbrev pub is_view : Item → Bool
 is_view ChangeView = true
 is_view item = false
 
+-- some item is a change of view
 abbrev pub changes_view : List Item → Bool
 changes_view items = list_any is_view items
 
@@ -66,6 +71,7 @@ same_layers old new =
     && same_entries bytes_eq same_answer (map.entries new.told) (map.entries old.told)
     && same_entries bytes_eq same_stamp (map.entries new.drops) (map.entries old.drops)
 
+-- the stamp of a commit or reset in a space: its number, and the revision that comes next
 abbrev pub next_stamp : ℕ → ℕ → Stamp
 next_stamp space revision = record { space = space; revision = revision + 1 }
 

@@ -21,6 +21,7 @@ said_or None otherwise = otherwise
 abbrev pub path_decision : Layers → List ℕ → Decision
 path_decision l path = said_or (option_or (map.get l.by_path path) (map.get l.told path)) (Asks path)
 
+-- what the layers say of an id that stands there
 abbrev pub place_decision : Layers → Place → Decision
 place_decision l (At path) = path_decision l path
 place_decision l Rootless = Says (Refused AccessDenied)
@@ -35,6 +36,7 @@ abbrev pub answer_by : Decision → Told → Answer
 answer_by (Says answer) disk = answer
 answer_by (Asks path) disk = answer_of disk path
 
+-- what the disk tells after a decision: it is asked only where that asks
 abbrev pub told_after : Decision → Told → Told
 told_after (Says answer) disk = disk
 told_after (Asks path) disk = after_ask disk path

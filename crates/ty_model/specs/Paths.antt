@@ -32,6 +32,7 @@ is_absolute (b ∷ bs) = b == 47
 abbrev pub dot : List ℕ
 dot = 46 ∷ []
 
+-- the text ..
 abbrev pub dot_dot : List ℕ
 dot_dot = 46 ∷ 46 ∷ []
 
@@ -81,6 +82,7 @@ abbrev pub text_of : List Component → List ℕ
 text_of (RootDir ∷ cs) = 47 ∷ joined (map component_text cs)
 text_of cs = joined (map component_text cs)
 
+-- the text, or . where it is empty
 abbrev pub or_dot : List ℕ → List ℕ
 or_dot [] = dot
 or_dot (b ∷ bs) = b ∷ bs
@@ -120,6 +122,7 @@ MayFollow CurDir = ⊥
 MayFollow ParentDir = ⊤
 MayFollow (Normal name) = IsTrue (is_name name)
 
+-- each of these may stand after another
 abbrev pub AllMayFollow : List Component → Type 0
 AllMayFollow cs = AllByRecursion MayFollow cs
 
@@ -151,6 +154,7 @@ slashes (c ∷ cs) = component_text c ++ 47 ∷ slashes cs
 
 -- ---- joins and parts
 
+-- the text ends with a slash
 abbrev pub ends_in_slash : List ℕ → Bool
 ends_in_slash [] = false
 ends_in_slash (b ∷ []) = b == 47
@@ -169,14 +173,17 @@ abbrev pub with_last : {A : Type 0} → A → Option (List A × A) → List A ×
 with_last x None = ([], x)
 with_last x (Some parts) = (x ∷ parts.0, parts.1)
 
+-- all but the last, and the last, where there is one
 abbrev pub split_last : {A : Type 0} → List A → Option (List A × A)
 split_last [] = None
 split_last (x ∷ xs) = Some (with_last x (split_last xs))
 
+-- the text of what stands before a last component, which is not the root
 abbrev pub text_before : List Component → Component → Option (List ℕ)
 text_before front RootDir = None
 text_before front c = Some (text_of front)
 
+-- the name that a component is, if it is one
 abbrev pub name_of : Component → Option (List ℕ)
 name_of (Normal name) = Some name
 name_of c = None
@@ -191,10 +198,12 @@ file_name path = option_and_then (λ parts. name_of parts.1) (split_last (compon
 
 -- ---- other forms of a path
 
+-- the component is .
 abbrev pub is_dot : Component → Bool
 is_dot CurDir = true
 is_dot c = false
 
+-- the component is ..
 abbrev pub is_up : Component → Bool
 is_up ParentDir = true
 is_up c = false
@@ -213,6 +222,7 @@ normalize_path path = text_of (normalized (components path))
 
 -- ---- one path from another
 
+-- two components are the same
 abbrev pub same_component : Component → Component → Bool
 same_component RootDir RootDir = true
 same_component CurDir CurDir = true
@@ -256,6 +266,7 @@ diff path base =
 
 -- ---- virtual paths
 
+-- the text without a slash at its front
 abbrev pub without_slash : List ℕ → List ℕ
 without_slash [] = []
 without_slash (b ∷ bs) = if b == 47 then bs else b ∷ bs
@@ -272,6 +283,7 @@ climbs_from depth (c ∷ cs) = climbs_from depth cs
 abbrev pub escapes : List ℕ → Bool
 escapes text = climbs_from 0 (components text)
 
+-- the text holds a NUL byte
 abbrev pub has_nul : List ℕ → Bool
 has_nul text = list_any (λ b. b == 0) text
 

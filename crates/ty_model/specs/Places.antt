@@ -34,6 +34,7 @@ place_below (Err refusal) vpath = RefusedAt refusal
 abbrev pub is_workspace_spec : Spec → Bool
 is_workspace_spec spec = bytes_eq spec.namespace (codes "ws")
 
+-- where a virtual path below a root stands
 abbrev pub place_in : Resolver → List ℕ → Root → Place
 place_in resolver vpath Project = Rootless
 place_in resolver vpath (Workspace root) = At (realize root vpath)
@@ -64,6 +65,7 @@ abbrev pub workspace_id : List ℕ → Result (List ℕ) PathRefusal → Option 
 workspace_id root (Ok vpath) = Some (interned (Workspace root) vpath)
 workspace_id root (Err refusal) = None
 
+-- the id of a file name in a folder, where there are both
 abbrev pub id_below : Option (List ℕ) → Option (List ℕ) → Option Id
 id_below (Some root) (Some name) = workspace_id root (virtual_path name)
 id_below (Some root) None = None
@@ -77,5 +79,6 @@ id_by_parent path = if is_absolute path then id_below (parent path) (file_name p
 abbrev pub detached_entry : Id
 detached_entry = record { root = Project; vpath = codes "/__detached.typ"; tag = 1 }
 
+-- the main file in memory
 abbrev pub memory_main_entry : Id
 memory_main_entry = record { root = Project; vpath = codes "/__main__.typ"; tag = 2 }

@@ -7,7 +7,7 @@ use Rattle.ty_model.specs.Version.{Layers}
 use Rattle.ty_model.specs.Batch.{Item, rises, staged, MapPath, UnmapPath, MapId, UnmapId, Clear, ChangeSet, ChangeView}
 use Rattle.ty_model.specs.Standing.{same_option, at_path, same_at_path, Changes, Held}
 
--- where `l` are the layers before the batch
+-- the ids that an item names or clears, where `l` are the layers before the batch
 abbrev pub item_ids : Layers → Item → List Id
 item_ids l (MapId id answer) = id ∷ []
 item_ids l (UnmapId id) = id ∷ []
@@ -17,6 +17,7 @@ item_ids l (UnmapPath path) = []
 item_ids l (ChangeSet removes inserts) = []
 item_ids l ChangeView = []
 
+-- the paths that an item names or clears
 abbrev pub item_paths : Layers → Item → List (List ℕ)
 item_paths l (MapPath path answer) = path ∷ []
 item_paths l (UnmapPath path) = path ∷ []
@@ -26,10 +27,12 @@ item_paths l (MapId id answer) = []
 item_paths l (UnmapId id) = []
 item_paths l ChangeView = []
 
+-- the ids that a batch names or clears
 abbrev pub touched_ids : Layers → List Item → List Id
 touched_ids l [] = []
 touched_ids l (item ∷ items) = item_ids l item ++ touched_ids l items
 
+-- the paths that a batch names or clears
 abbrev pub touched_paths : Layers → List Item → List (List ℕ)
 touched_paths l [] = []
 touched_paths l (item ∷ items) = item_paths l item ++ touched_paths l items
@@ -38,6 +41,7 @@ touched_paths l (item ∷ items) = item_paths l item ++ touched_paths l items
 abbrev pub same_id_at : Layers → Layers → Id → Bool
 same_id_at old new id = same_option same_answer (finmap.get old.by_id id) (finmap.get new.by_id id)
 
+-- old and new have the same at a path
 abbrev pub same_path_at : Layers → Layers → List ℕ → Bool
 same_path_at old new path = same_at_path (at_path old path) (at_path new path)
 
@@ -46,16 +50,20 @@ abbrev pub marked_ids : Layers → Layers → ℕ → finmap.FinMap id_cmp ℕ �
 marked_ids old new revision m [] = m
 marked_ids old new revision m (id ∷ ids) = marked_ids old new revision (if same_id_at old new id then m else finmap.insert m id revision) ids
 
+-- the same of paths
 abbrev pub marked_paths : Layers → Layers → ℕ → finmap.FinMap text_cmp ℕ → List (List ℕ) → finmap.FinMap text_cmp ℕ
 marked_paths old new revision m [] = m
 marked_paths old new revision m (path ∷ paths) = marked_paths old new revision (if same_path_at old new path then m else finmap.insert m path revision) paths
 
+-- some of these ids became other
 abbrev pub ids_differ : Layers → Layers → List Id → Bool
 ids_differ old new ids = list_any (λ id. not (same_id_at old new id)) ids
 
+-- some of these paths became other
 abbrev pub paths_differ : Layers → Layers → List (List ℕ) → Bool
 paths_differ old new paths = list_any (λ path. not (same_path_at old new path)) paths
 
+-- some of these ids or paths became other
 abbrev pub differ : Layers → Layers → List Id → List (List ℕ) → Bool
 differ old new ids paths = ids_differ old new ids || paths_differ old new paths
 

@@ -1,6 +1,5 @@
 -- A version: its layers, its stamps and its resolver.
-use Rattle.std.specs.Prelude.{ℕ, ◌==◌, ◌&&◌, Bool, List}
-use Rattle.std.specs.Option.{unwrap_or}
+use Rattle.std.specs.Prelude.{ℕ, ◌==◌, ◌&&◌, Bool}
 use Rattle.std.specs.Ordering.{is_eq}
 use Rattle.std.specs.FinMap as map
 use Rattle.ty_model.specs.Values.{Id, Answer, id_cmp, text_cmp}
@@ -18,22 +17,22 @@ pub record Layers : Type 0 where
   pub told : map.FinMap text_cmp Answer
   pub drops : map.FinMap text_cmp Stamp
 
+-- all that a space holds at a revision
 pub record Version : Type 0 where
   pub revision : ℕ
   pub layers : Layers
   pub reset : Stamp
   pub resolver : Resolver
 
-abbrev pub stamp_of : Version → List ℕ → Stamp
-stamp_of v path = unwrap_or (map.get v.layers.drops path) v.reset
-
 -- two stamps are the same
 abbrev pub same_stamp : Stamp → Stamp → Bool
 same_stamp a b = (a.space == b.space) && (a.revision == b.revision)
 
+-- two ids are the same
 abbrev pub same_id : Id → Id → Bool
 same_id a b = is_eq (id_cmp a b)
 
+-- layers with nothing in them
 abbrev pub no_layers : Layers
 no_layers = record { by_id = map.empty; by_path = map.empty; told = map.empty; drops = map.empty }
 

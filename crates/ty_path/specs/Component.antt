@@ -4,6 +4,7 @@ use Rattle.ty_path.specs.declared.component.Component as own
 use Rattle.ty_path.specs.declared.component.Component.TheVariants as own_of
 use Rattle.ty_model.specs.Paths.{Component, RootDir, CurDir, ParentDir, Normal}
 
+-- a component as the definition has it
 abbrev pub component_seen : own.Component → Component
 component_seen own_of.RootDir = RootDir
 component_seen own_of.CurDir = CurDir

@@ -27,6 +27,7 @@ abbrev pub name_first : List Component → Bool
 name_first (Normal name ∷ kept) = true
 name_first kept = false
 
+-- the components without a name at their front
 abbrev pub without_name : List Component → List Component
 without_name (Normal name ∷ kept) = kept
 without_name kept = kept

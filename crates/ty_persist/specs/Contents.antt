@@ -6,10 +6,12 @@ use Rattle.std.specs.Ordering.{match_ordering}
 use Rattle.std.specs.List.Sorted.{IsStrictlySortedBy}
 use Rattle.std.specs.Map.{keys_of}
 
+-- a map as its entries, in the order of their keys, and the height of its tree
 pub record Contents (K V : Type 0) : Type 0 where
   pub entries : List (K × V)
   pub height : ℕ
 
+-- contents have codes where keys and values do
 abbrev pub contents_code : {K V : Type 0} → Coded K → Coded V → Coded (Contents K V)
 contents_code {K} {V} k v = code_by (List (K × V) × ℕ) (coded× (coded_list (coded× k v)) coded_ℕ) (λ c. (c.entries, c.height)) (λ p. record { entries = p.0; height = p.1 }) (λ _. refl)
 
@@ -35,6 +37,7 @@ abbrev pub above : {K V : Type 0} → (K → K → Ordering) → K → List (K �
 above cmp k [] = []
 above cmp k (e ∷ es) = match_ordering (cmp k e.0) (e ∷ es) es (above cmp k es)
 
+-- the first of a list, if there is one
 abbrev pub first_of : {A : Type 0} → List A → Option A
 first_of [] = None
 first_of (x ∷ xs) = Some x

@@ -9,6 +9,7 @@ leads_down [] = true
 leads_down (Normal name ∷ cs) = true
 leads_down cs = false
 
+-- these components, where they lead down
 abbrev pub only_down : Option (List Component) → Option (List Component)
 only_down None = None
 only_down (Some cs) = if leads_down cs then Some cs else None
@@ -27,6 +28,7 @@ IsBelow root path = IsSome (way_down root path)
 abbrev pub is_virtual : List ℕ → Bool
 is_virtual text = is_absolute text && bytes_eq (clean text) text
 
+-- the components as a virtual path; there is none where they do not lead down
 abbrev pub way_as_text : Option (List Component) → Result (List ℕ) PathRefusal
 way_as_text None = Err Escapes
 way_as_text (Some cs) = Ok (47 ∷ text_of cs)

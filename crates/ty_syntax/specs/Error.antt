@@ -11,9 +11,11 @@ use Rattle.ty_syntax.specs.declared.error.FileError.{FileError}
 use Rattle.ty_syntax.specs.declared.error.FileError.TheVariants as file
 use Rattle.ty_syntax.specs.Spec.{numbers_of, spec_of}
 
+-- the bytes of a text that may be missing
 abbrev pub text_of : Option (String Global) → Option (List ℕ)
 text_of text = option_map string_bytes text
 
+-- what is wrong with a package, as plain data
 abbrev pub package_refusal_of : PackageError → plain.PackageRefusal
 package_refusal_of (of_package.NotFound spec) = plain.NoPackage (spec_of spec)
 package_refusal_of (of_package.VersionNotFound spec latest) = plain.NoVersion (spec_of spec) (numbers_of latest)
@@ -21,6 +23,7 @@ package_refusal_of (of_package.NetworkFailed text) = plain.NetworkFailed (text_o
 package_refusal_of (of_package.MalformedArchive text) = plain.MalformedArchive (text_of text)
 package_refusal_of (of_package.Other text) = plain.OtherPackage (text_of text)
 
+-- what is wrong with a file, as plain data
 abbrev pub refusal_of : FileError → plain.Refusal
 refusal_of (file.NotFound path) = plain.NotFound (string_bytes path)
 refusal_of file.AccessDenied = plain.AccessDenied

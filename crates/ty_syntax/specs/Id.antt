@@ -7,6 +7,7 @@ use Rattle.ty_syntax.specs.declared.id.Root.TheVariants as root
 use Rattle.ty_model.specs.Places.{interned}
 use Rattle.ty_syntax.specs.Spec.{spec_of}
 
+-- a root as plain data
 abbrev pub root_of : Root → plain.Root
 root_of root.Project = plain.Project
 root_of (root.Workspace path) = plain.Workspace (string_bytes path)

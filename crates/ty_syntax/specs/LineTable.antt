@@ -4,8 +4,10 @@ use Rattle.ty_syntax.specs.declared.lines.LineStart.{LineStart}
 use Rattle.ty_syntax.specs.Text.{units}
 use Rattle.ty_syntax.specs.Lines.{line_starts}
 
+-- the start of a line, with the UTF-16 code units before it
 abbrev pub entry : List ℕ → ℕ → LineStart
 entry text start = record { byte = start; utf16 = units (take start text) }
 
+-- the starts of all lines, each with the units before it
 abbrev pub table : List ℕ → List LineStart
 table text = map (entry text) (line_starts text)

@@ -38,6 +38,7 @@ pub record Place : Type 0 where
   pub column : ℕ
   pub unit : ℕ
 
+-- the place of an offset that the text has
 abbrev pub place_at : List ℕ → ℕ → Place
 place_at text offset = record {
   line = line_at text offset;
