@@ -182,9 +182,16 @@ fn workspaces_make_ids(rt: HostRuntime) -> Result<(), Fail> {
         WorkspaceResolver::workspace_id(alloc, "/w/.")?.path(),
         "/w"
     );
+    Ok(())
+}
+
+#[test]
+fn untitled_files_may_have_no_workspace(rt: HostRuntime) -> Result<(), Fail> {
+    let alloc = rt.alloc();
+    let mut tags = Tags::new();
     let loose = WorkspaceResolver::rooted_untitled(alloc, None, below(alloc)?, &mut tags)?;
     assert!(rt; *loose.root() == Root::Project);
-    assert_eq!(rt; loose.tag(), 5);
+    assert_eq!(rt; loose.tag(), 3);
     Ok(())
 }
 
@@ -218,6 +225,12 @@ fn ids_stand_in_workspaces_and_packages(rt: HostRuntime) -> Result<(), Fail> {
         kind_of(alloc, Root::Package(package(alloc, "ws")?))?,
         Err(FileFault::File(FileError::Other(None)))
     );
+    Ok(())
+}
+
+#[test]
+fn packages_may_name_workspaces(rt: HostRuntime) -> Result<(), Fail> {
+    let alloc = rt.alloc();
     let known = id_below(alloc, Root::Package(package(alloc, "preview")?))?;
     let named = id_below(alloc, Root::Package(package(alloc, "ws")?))?;
     assert!(rt; WorkspaceResolver::is_package_file(&known));
@@ -242,18 +255,37 @@ fn change_sets_grow(rt: HostRuntime) -> Result<(), Fail> {
     set.may_extend(Some(more))?;
     set.may_extend(None)?;
     assert_eq!(rt; (set.removes.len(), set.inserts.len()), (1, 2));
-    let event = FilesystemEvent::Update(set, true);
+    let none = Vec::new(alloc);
+    assert!(rt; FileChangeSet::new_inserts(alloc, none).is_empty());
+    Ok(())
+}
+
+/// A set that removes one path.
+fn removes_one(alloc: Global) -> Result<FileChangeSet, Fail> {
+    Ok(FileChangeSet::new_removes(alloc, vec![in alloc; path(alloc, "/a")?]?))
+}
+
+#[test]
+fn watchers_tell_of_changes(rt: HostRuntime) -> Result<(), Fail> {
+    let event = FilesystemEvent::Update(removes_one(rt.alloc())?, true);
     let (set, upstream, is_sync) = event.split_with_is_sync();
     assert_eq!(rt;
-        (set.inserts.len(), upstream.is_none(), is_sync),
-        (2, true, true)
+        (set.removes.len(), upstream.is_none(), is_sync),
+        (1, true, true)
     );
+    Ok(())
+}
+
+#[test]
+fn watchers_answer_what_was_asked(rt: HostRuntime) -> Result<(), Fail> {
+    let alloc = rt.alloc();
+    let asked = UpstreamUpdateEvent {
+        invalidates: Vec::new(alloc),
+        opaque: 7,
+    };
     let event = FilesystemEvent::UpstreamUpdate {
-        changeset: set,
-        upstream_event: Some(UpstreamUpdateEvent {
-            invalidates: vec![in alloc; path(alloc, "/a")?]?,
-            opaque: 7,
-        }),
+        changeset: removes_one(alloc)?,
+        upstream_event: Some(asked),
     };
     let (set, upstream, is_sync) = event.split_with_is_sync();
     assert_eq!(rt;
@@ -264,8 +296,6 @@ fn change_sets_grow(rt: HostRuntime) -> Result<(), Fail> {
         ),
         (1, Some(7), false)
     );
-    let none = Vec::new(alloc);
-    assert!(rt; FileChangeSet::new_inserts(alloc, none).is_empty());
     Ok(())
 }
 
@@ -308,12 +338,19 @@ fn files_stand_over_a_disk(rt: HostRuntime) -> Result<(), Fail> {
         over.content(alloc, "/w/a.typ")?
             .same_as(&holding(alloc, "told")?)
     );
-    let removed = vec![in alloc; path(alloc, "/w/a.typ")?]?;
-    over.inner_mut()
-        .notify(FileChangeSet::new_removes(alloc, removed))?;
+    Ok(())
+}
+
+#[test]
+fn told_files_are_taken_back(rt: HostRuntime) -> Result<(), Fail> {
+    let alloc = rt.alloc();
+    let mut told = NotifyAccessModel::new(alloc, DummyAccessModel);
+    let files = vec![in alloc; (path(alloc, "/a")?, holding(alloc, "told")?)]?;
+    told.notify(FileChangeSet::new_inserts(alloc, files))?;
+    told.notify(removes_one(alloc)?)?;
+    let over: OverlayAccessModel<ImmutPath, _> = OverlayAccessModel::new(alloc, told);
     let denied = FileSnapshot::from_error(alloc, FileError::AccessDenied)?;
-    assert!(rt; over.content(alloc, "/w/a.typ")?.same_as(&denied));
-    assert!(rt; over.inner().holds("/w/b.typ", &holding(alloc, "told")?));
+    assert!(rt; over.inner().holds("/a", &denied));
     Ok(())
 }
 
