@@ -28,7 +28,7 @@ pub use content::{ContentWord, IdWord};
 pub use edit::Edit;
 pub use limits::{DEFAULT_LIMITS, Limits};
 pub use memory::{MemorySink, MemorySource};
-pub use program::{BAD_WORDS, OUT_OF_MEMORY, run_program};
+pub use program::{bad_words, out_of_memory, run_program};
 pub use reply::{Reply, line_of};
 pub use session::{SessionFault, run_session};
 pub use sink::{ByteSink, FlushStep, WriteStep};
