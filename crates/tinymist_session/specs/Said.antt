@@ -18,8 +18,8 @@ use Rattle.tinymist_session.specs.declared.limits.Options.{Options}
 use Rattle.tinymist_session.specs.ChangeSets.{set_said}
 use Rattle.tinymist_session.specs.declared.content.ContentWord.{ContentWord}
 use Rattle.tinymist_session.specs.declared.content.ContentWord.TheVariants as content
-use Rattle.tinymist_session.specs.declared.command.Change.{Change}
-use Rattle.tinymist_session.specs.declared.command.Change.TheVariants.{Remove, Tell}
+use Rattle.tinymist_session.specs.declared.changes.Change.{Change}
+use Rattle.tinymist_session.specs.declared.changes.Change.TheVariants.{Remove, Tell}
 use Rattle.tinymist_session.specs.declared.content.IdWord.{IdWord}
 use Rattle.tinymist_session.specs.declared.content.IdWord.TheVariants as word
 use Rattle.tinymist_session.specs.declared.edit.Edit.{Edit}

@@ -1,10 +1,12 @@
 //! A session over a stream of command lines: its grammar, its machine, its loop, and the program's top call.
 #![tactic(auto)]
 
+mod change_set;
 mod changes;
 mod command;
 mod content;
 mod edit;
+mod fields;
 mod limits;
 mod machine;
 mod memory;
@@ -22,7 +24,7 @@ mod tagged;
 mod tests;
 mod words;
 
-pub use changes::CleanChanges;
+pub use change_set::CleanChanges;
 pub use command::{Command, read_command};
 pub use content::{ContentWord, IdWord};
 pub use edit::Edit;

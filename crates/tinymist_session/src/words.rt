@@ -1,9 +1,9 @@
-//! The fields of a line, and the words that stand in them.
-ghost use Rattle.std.specs.Prelude.{◌≡◌, ◌<◌, ◌∷◌, [], IfOk, IfSome, IfNone, None, true, false};
+//! The text of a line, and the words that stand in its fields.
+ghost use Rattle.std.specs.Prelude.{◌≡◌, ◌<◌, ◌∷◌, IfOk, IfSome, IfNone, None, true, false};
 ghost use Rattle.std.specs.Option.{option_map, option_and_then};
 ghost use Rattle.std.specs.List.{list_all};
 ghost use Rattle.std.specs.String.{string_bytes};
-ghost use Rattle.ty_model.specs.Paths.{parts_at, clean};
+ghost use Rattle.ty_model.specs.Paths.{clean};
 ghost use Rattle.tinymist_session.specs.Grammar as grammar;
 
 use std::alloc::Global;
@@ -25,14 +25,6 @@ fn is_plain(line: &[u8]) -> bool
     ensures { result ≡ list_all grammar.is_plain line.now }
 {
     line.iter().all(|b| (*b >= 32 && *b != 127) || *b == b'\t')
-}
-
-/// The first field, and the rest of the line after its tab.
-pub(crate) fn cut(text: &str) -> Option<(&str, &str)>
-    ensures some { IfSome result (λ parts. parts_at 9 text.now ≡ parts.0.now ∷ parts_at 9 parts.1.now) }
-    ensures none { IfNone result (parts_at 9 text.now ≡ text.now ∷ []) }
-{
-    text.split_once('\t')
 }
 
 /// A number in decimal without leading zeros.

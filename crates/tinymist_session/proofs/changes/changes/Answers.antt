@@ -5,7 +5,7 @@ use Rattle.tinymist_session.specs.ChangeSets.{set_said}
 use Rattle.tinymist_session.specs.Grammar.{changes_of, removing, telling}
 use Rattle.tinymist_session.specs.Said.{fields_of}
 use Rattle.tinymist_session.proofs.Changing.{one_more}
-use Rattle.tinymist_session.proofs.command.changes.Goals as goal
+use Rattle.tinymist_session.proofs.changes.changes.Goals as goal
 
 pub loop-left-preserved-in_ok-all-in-Remove : goal.loop-left-preserved-in_ok-all-in-Remove
 loop-left-preserved-in_ok-all-in-Remove c =
