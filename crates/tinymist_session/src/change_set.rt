@@ -1,6 +1,5 @@
 //! A change set whose paths are their cleaned forms.
 ghost use Rattle.std.specs.Prelude.{◌≡◌, map, IfOk};
-ghost use Rattle.std.specs.String.{string_bytes};
 ghost use Rattle.ty_path.specs.Shared.{path_text};
 ghost use Rattle.tinymist_vfs.specs.Items.{file_of, clean_text, clean_file};
 ghost use Rattle.tinymist_session.specs.Grammar.{no_changes, with_changes, removing, telling};
@@ -54,13 +53,13 @@ impl CleanChanges {
         alloc: Global,
         path: CleanPath,
     ) -> Result<CleanChanges, OutOfMemory>
-        ensures { IfOk result (λ all. set_said all.set ≡ with_changes (set_said self.set) (removing (string_bytes path.text))) }
+        ensures { IfOk result (λ all. set_said all.set ≡ with_changes (set_said self.set) (removing path)) }
     {
         let FileChangeSet {
             mut removes,
             inserts,
         } = self.set;
-        removes.push(Arc::new(alloc, path.text)?)?;
+        removes.push(Arc::new(alloc, path.into_string())?)?;
         Ok(CleanChanges {
             set: FileChangeSet { removes, inserts },
         })
@@ -73,13 +72,13 @@ impl CleanChanges {
         path: CleanPath,
         answer: FileSnapshot,
     ) -> Result<CleanChanges, OutOfMemory>
-        ensures { IfOk result (λ all. set_said all.set ≡ with_changes (set_said self.set) (telling (string_bytes path.text) answer)) }
+        ensures { IfOk result (λ all. set_said all.set ≡ with_changes (set_said self.set) (telling path answer)) }
     {
         let FileChangeSet {
             removes,
             mut inserts,
         } = self.set;
-        inserts.push((Arc::new(alloc, path.text)?, answer))?;
+        inserts.push((Arc::new(alloc, path.into_string())?, answer))?;
         Ok(CleanChanges {
             set: FileChangeSet { removes, inserts },
         })
