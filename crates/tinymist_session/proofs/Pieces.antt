@@ -1,5 +1,5 @@
 -- A piece of a list at the front of a buffer.
-use Rattle.std.proofs.Common.{◌≡◌, ℕ, suc, zero, Bool, false, ◌+◌, ◌-◌, ◌≤◌, ◌<◌, min, List, [], ◌∷◌, ◌++◌, ◌==◌, refl, inl, inr, length, take, drop, sym, ap, ◌∙◌, arith, add_comm, length-take, length-drop, length-append}
+use Rattle.std.proofs.Common.{◌≡◌, ℕ, suc, zero, Bool, false, ◌+◌, ◌-◌, ◌≤◌, ◌<◌, min, List, [], ◌∷◌, ◌++◌, ◌==◌, refl, inl, inr, length, take, drop, sym, ap, ◌∙◌, arith, length-take, length-drop, length-append}
 use Rattle.std.proofs.lemmas.Bool.Decides.{eqb_tells}
 use Rattle.std.proofs.Math.ListN.{drop_of_length-le}
 use Rattle.tinymist_session.specs.Memory.{at_most_next, read_by, counted, SourceHolds, after_read, SinkHolds, dry_after, after_write}

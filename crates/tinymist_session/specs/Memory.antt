@@ -1,5 +1,5 @@
 -- A source and a sink in memory: what they hold, and what their next call does.
-use Rattle.std.specs.Prelude.{ℕ, ◌+◌, ◌-◌, ◌^◌, ◌==◌, ◌&&◌, if◌then◌else◌, min, nat_lt, Bool, true, false, List, [], ◌∷◌, ◌++◌, length, take, drop, ⊤, ◌≡◌}
+use Rattle.std.specs.Prelude.{ℕ, ◌+◌, ◌-◌, ◌^◌, ◌==◌, if◌then◌else◌, min, nat_lt, Bool, true, false, List, [], ◌∷◌, ◌++◌, length, take, drop, ⊤, ◌≡◌}
 use Rattle.std.specs.List.{list_any, list_all}
 use Rattle.tinymist_session.specs.declared.source.ReadStep.{ReadStep}
 use Rattle.tinymist_session.specs.declared.source.ReadStep.TheVariants.{Got, End, Failed}

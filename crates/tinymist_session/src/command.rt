@@ -61,38 +61,23 @@ pub fn read_command(alloc: Global, line: &[u8]) -> Result<Option<Command>, OutOf
 fn sentence(alloc: Global, word: &str, fields: Option<&str>) -> Result<Option<Command>, OutOfMemory>
     ensures { IfOk result (λ said. option_map command_of said ≡ grammar.sentence_of (word.now ∷ fields_of fields.entry)) }
 {
-    if word == "map" {
-        map_sentence(alloc, fields)
-    } else if word == "snapshot" {
-        Ok(snapshot_sentence(fields))
-    } else if word == "read" {
-        read_sentence(alloc, fields)
-    } else if word == "unmap" {
-        unmap_sentence(alloc, fields)
-    } else if word == "clear" {
-        Ok(clear_sentence(fields))
-    } else if word == "notify" {
-        notify_sentence(alloc, fields)
-    } else if word == "paths" {
-        Ok(paths_sentence(fields))
-    } else if word == "map-id" {
-        map_id_sentence(alloc, fields)
-    } else if word == "unmap-id" {
-        unmap_id_sentence(alloc, fields)
-    } else if word == "rootless" {
-        rootless_sentence(alloc, fields)
-    } else if word == "ids" {
-        Ok(ids_sentence(fields))
-    } else if word == "path" {
-        path_sentence(alloc, fields)
-    } else if word == "source" {
-        source_sentence(alloc, fields)
-    } else if word == "line" {
-        line_sentence(alloc, fields)
-    } else if word == "clean" {
-        clean_sentence(alloc, fields)
-    } else {
-        Ok(None)
+    match word {
+        "map" => map_sentence(alloc, fields),
+        "snapshot" => Ok(snapshot_sentence(fields)),
+        "read" => read_sentence(alloc, fields),
+        "unmap" => unmap_sentence(alloc, fields),
+        "clear" => Ok(clear_sentence(fields)),
+        "notify" => notify_sentence(alloc, fields),
+        "paths" => Ok(paths_sentence(fields)),
+        "map-id" => map_id_sentence(alloc, fields),
+        "unmap-id" => unmap_id_sentence(alloc, fields),
+        "rootless" => rootless_sentence(alloc, fields),
+        "ids" => Ok(ids_sentence(fields)),
+        "path" => path_sentence(alloc, fields),
+        "source" => source_sentence(alloc, fields),
+        "line" => line_sentence(alloc, fields),
+        "clean" => clean_sentence(alloc, fields),
+        _ => Ok(None),
     }
 }
 

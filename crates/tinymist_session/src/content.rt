@@ -52,23 +52,17 @@ impl ContentWord {
 pub(crate) fn content(alloc: Global, word: &str) -> Result<Option<ContentWord>, OutOfMemory>
     ensures { IfOk result (λ content. option_map content_said content ≡ grammar.content_of word.now) }
 {
-    if word == "!not-found" {
-        Ok(Some(ContentWord::Missing))
-    } else if word == "!access-denied" {
-        Ok(Some(ContentWord::Refused(FileError::AccessDenied)))
-    } else if word == "!is-directory" {
-        Ok(Some(ContentWord::Refused(FileError::IsDirectory)))
-    } else if word == "!not-source" {
-        Ok(Some(ContentWord::Refused(FileError::NotSource)))
-    } else if word == "!invalid-utf8" {
-        Ok(Some(ContentWord::Refused(FileError::InvalidUtf8)))
-    } else if word == "!other" {
-        Ok(Some(ContentWord::Refused(FileError::Other(None))))
-    } else {
-        match after_sign('=', word) {
+    match word {
+        "!not-found" => Ok(Some(ContentWord::Missing)),
+        "!access-denied" => Ok(Some(ContentWord::Refused(FileError::AccessDenied))),
+        "!is-directory" => Ok(Some(ContentWord::Refused(FileError::IsDirectory))),
+        "!not-source" => Ok(Some(ContentWord::Refused(FileError::NotSource))),
+        "!invalid-utf8" => Ok(Some(ContentWord::Refused(FileError::InvalidUtf8))),
+        "!other" => Ok(Some(ContentWord::Refused(FileError::Other(None)))),
+        _ => match after_sign('=', word) {
             Some(digits) => bytes(alloc, digits),
             None => Ok(None),
-        }
+        },
     }
 }
 

@@ -1,4 +1,4 @@
-use Rattle.std.proofs.Common.{◌≡◌, lit<}
+use Rattle.std.proofs.Common.{lit<}
 use Rattle.std.proofs.lemmas.Str.Pattern.{split_once_first}
 use Rattle.ty_model.proofs.Cuts.{cut_is, some_part, none_part}
 use Rattle.tinymist_session.proofs.fields.cut.Goals as goal

@@ -1,4 +1,4 @@
-use Rattle.std.proofs.Common.{rules, ◌≡◌, ◌+◌, ◌≤◌, ◌<◌, refl, min, take, ap, ◌∙◌, arith}
+use Rattle.std.proofs.Common.{rules, ◌+◌, min, ap, ◌∙◌, arith}
 use Rattle.tinymist_session.proofs.Pieces.{piece_taken, not_dry, is_dry, no_piece, unflushed, still_flushed}
 use Rattle.tinymist_session.proofs.memory.MemorySinkByteSink.write.Goals as goal
 

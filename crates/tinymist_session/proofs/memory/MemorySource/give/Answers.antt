@@ -1,4 +1,4 @@
-use Rattle.std.proofs.Common.{◌≡◌, ℕ, ◌≤◌, ◌<◌, ◌+◌, ◌-◌, min, drop, length, sym, ap, ◌∙◌, arith, Some}
+use Rattle.std.proofs.Common.{ℕ, ◌<◌, ◌+◌, ◌-◌, min, drop, length, sym, ap, ◌∙◌, arith, Some}
 use Rattle.tinymist_session.specs.Memory.{SourceHolds, at_most_next, read_by}
 use Rattle.tinymist_session.proofs.Pieces.{piece_held, piece_gone, read_none, read_some}
 use Rattle.tinymist_session.proofs.memory.MemorySource.give.Goals as goal
