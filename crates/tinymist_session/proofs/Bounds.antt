@@ -1,5 +1,5 @@
 -- How much of an input is taken for a line.
-use Rattle.std.proofs.Common.{◌≡◌, ℕ, ◌+◌, ◌-◌, ◌≤◌, List, [], ◌∷◌, ◌++◌, length, take, drop, ap, ◌∙◌, sym, arith, length-append, length-take, length-drop, Option, Some}
+use Rattle.std.proofs.Common.{◌≡◌, ℕ, ◌+◌, ◌-◌, ◌≤◌, List, [], ◌++◌, length, drop, ap, ◌∙◌, sym, arith, length-append, length-take, length-drop, Option, Some}
 use Rattle.std.specs.Prelude.{slice_range}
 use Rattle.std.specs.Io.KnownBytes.{prepend_known}
 use Rattle.tinymist_session.specs.Run.{TakenWithin}

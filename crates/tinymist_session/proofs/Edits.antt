@@ -17,9 +17,9 @@ use Rattle.tinymist_vfs.specs.declared.resolver.MockRootResolver.{MockRootResolv
 use Rattle.tinymist_session.specs.Command.{IdWord}
 use Rattle.tinymist_session.specs.declared.tagged.TaggedIds.{TaggedIds}
 use Rattle.tinymist_session.specs.Machine.{State, space_at, with_space, edit_in, edit_step, id_edit_step, id_for, on_named, edited}
-use Rattle.tinymist_session.specs.Reply.{Reply, AtRevision, BadView}
+use Rattle.tinymist_session.specs.Reply.{AtRevision, BadView}
 use Rattle.tinymist_session.specs.Shown.{IsShown, Shows, shown, space_shown, known, highest, top_revision}
-use Rattle.tinymist_session.proofs.Showing.{Found, found, missing, set_both}
+use Rattle.tinymist_session.proofs.Showing.{found, missing, set_both}
 
 -- ---- a commit, as it is shown
 

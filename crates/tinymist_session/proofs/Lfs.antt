@@ -1,10 +1,10 @@
 -- Where the first LF of some bytes stands.
-use Rattle.std.proofs.Common.{◌≡◌, ℕ, ◌+◌, ◌<◌, ◌≤◌, ◌==◌, ◌||◌, suc, zero, Bool, true, false, List, [], ◌∷◌, ◌++◌, length, take, drop, get_or, refl, sym, ap, ◌∙◌, arith, add-one, drop-cons, Option, Some, None}
+use Rattle.std.proofs.Common.{◌≡◌, ℕ, ◌+◌, ◌<◌, ◌≤◌, ◌==◌, ◌||◌, suc, zero, Bool, true, false, List, [], ◌∷◌, length, take, drop, get_or, refl, sym, ap, ◌∙◌, arith, add-one, drop-cons, Option, Some, None}
 use Rattle.std.proofs.Math.Seq.{take-length}
 use Rattle.std.proofs.lemmas.Bool.{eqb-true}
-use Rattle.std.specs.Prelude.{slice_index, IfSome, IfNone, MatchOption}
+use Rattle.std.specs.Prelude.{slice_index, IfSome, IfNone}
 use Rattle.std.specs.List.{list_any}
-use Rattle.memchr.specs.Find.{IsFirstByte, NoneBefore, Passes, is_byte}
+use Rattle.memchr.specs.Find.{IsFirstByte, is_byte}
 use Rattle.tinymist_session.specs.Lf.{IsLine}
 
 not_true : (b : Bool) → ¬ (b ≡ true) → b ≡ false

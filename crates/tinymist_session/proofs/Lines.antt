@@ -1,5 +1,5 @@
 -- The first line of an input, and what it makes of the end and the commands.
-use Rattle.std.proofs.Common.{◌≡◌, ℕ, ◌+◌, ◌-◌, ◌<◌, ◌≤◌, ◌==◌, ◌||◌, suc, Bool, true, false, cond, List, [], ◌∷◌, ◌++◌, length, take, refl, sym, ap, ◌∙◌, arith, Option, Some, None, inl, inr, add-zero, zero-add}
+use Rattle.std.proofs.Common.{◌≡◌, ℕ, ◌+◌, ◌-◌, ◌<◌, ◌≤◌, ◌==◌, ◌||◌, suc, Bool, true, false, cond, List, [], ◌∷◌, ◌++◌, length, take, refl, ap, ◌∙◌, arith, Option, Some, None, inl, inr, add-zero, zero-add}
 use Rattle.std.proofs.Math.Seq.{take-nil}
 use Rattle.std.proofs.lemmas.Bool.{le-leb}
 use Rattle.std.proofs.lemmas.Bool.Decides.{leb_tells}
@@ -9,7 +9,7 @@ use Rattle.ty_model.specs.Paths.{onto_first}
 use Rattle.tinymist_session.specs.Command.{Command}
 use Rattle.tinymist_session.specs.Grammar.{command_of}
 use Rattle.tinymist_session.specs.Lf.{IsLine}
-use Rattle.tinymist_session.specs.Session.{Limits, lines_of, End, Whole, Bad, Over, good_line, good_commands, before, end_with, end_of, commands_of}
+use Rattle.tinymist_session.specs.Session.{Limits, lines_of, Whole, Bad, Over, good_line, good_commands, before, end_with, end_of, commands_of}
 use Rattle.tinymist_session.specs.Turns.{commands_after, end_after, ends}
 
 parts : (a b : Bool) → (a || b) ≡ false → (a ≡ false) × (b ≡ false)

@@ -1,9 +1,9 @@
 -- The words of the options: two for each that is given.
-use Rattle.std.proofs.Common.{◌≡◌, ◌⊎◌, ℕ, ◌+◌, ◌*◌, ◌<◌, ◌≤◌, suc, Bool, true, false, cond, List, [], ◌∷◌, length, refl, sym, ap, ◌∙◌, arith, inl, inr, Option, Some, None}
+use Rattle.std.proofs.Common.{◌≡◌, ◌⊎◌, ℕ, ◌+◌, ◌*◌, ◌<◌, ◌≤◌, suc, Bool, true, false, cond, List, [], ◌∷◌, length, refl, arith, inl, inr, Option, Some, None}
 use Rattle.std.specs.Prelude.{codes}
 use Rattle.std.specs.Option.{option_map}
 use Rattle.std.specs.Str.{bytes_eq}
-use Rattle.tinymist_session.specs.Words.{Options, once, with_option, with_value, limit_of, options_of}
+use Rattle.tinymist_session.specs.Words.{Options, once, with_value, limit_of, options_of}
 
 abbrev count : Option ℕ → ℕ
 count None = 0

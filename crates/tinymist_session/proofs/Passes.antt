@@ -1,11 +1,8 @@
 -- One line of a session: its end and its replies.
-use Rattle.std.proofs.Common.{◌≡◌, ◌⊎◌, ℕ, ◌+◌, ◌<◌, ◌≤◌, inl, inr, Bool, true, false, List, [], ◌∷◌, ◌++◌, length, take, drop, refl, sym, ap, subst, ◌∙◌, append_assoc, append-nil, arith, length-append, Option, Some, None, Result, Ok, Err}
-use Rattle.std.specs.Prelude.{IsSome, IfErr}
+use Rattle.std.proofs.Common.{◌≡◌, ◌⊎◌, ℕ, ◌+◌, ◌<◌, ◌≤◌, inl, inr, List, [], ◌∷◌, ◌++◌, length, take, drop, refl, sym, ap, subst, ◌∙◌, append_assoc, append-nil, arith, length-append, Option, Some, None, Result, Ok, Err}
+use Rattle.std.specs.Prelude.{IsSome}
 use Rattle.std.specs.Io.KnownBytes.{prepend_known, append_known, IsAtEnd}
 use Rattle.std.proofs.lemmas.List.{take-append-drop}
-use Rattle.ty_model.specs.Held.{Kept}
-use Rattle.tinymist_session.specs.declared.tagged.TaggedIds.{TaggedIds}
-use Rattle.tinymist_vfs.specs.declared.resolver.MockRootResolver.{MockRootResolver}
 use Rattle.ty_model.specs.Disk.{Told}
 use Rattle.tinymist_session.specs.Command.{Command}
 use Rattle.tinymist_session.specs.Grammar.{command_of}
@@ -19,10 +16,9 @@ use Rattle.tinymist_session.specs.Session.{End, Whole, Bad, Over, lines_of, repl
 use Rattle.tinymist_session.proofs.Lines.{lines-lf, lines-last, lines-long, some_line, end_over, commands_start, end_good, end_bad, end_long, commands_good, commands_bad, commands_long}
 use Rattle.tinymist_session.specs.declared.session.SessionFault.{SessionFault}
 use Rattle.tinymist_session.specs.declared.session.SessionFault.TheVariants.{ReadFault, WriteFault, BadLine, Full, OutOfMemory}
-use Rattle.tinymist_session.specs.Shown.{IsShown}
 use Rattle.tinymist_session.specs.Run.{EndFits, TakesPrefix, Written, UnlessCutOff}
 use Rattle.tinymist_session.specs.ByteSink.{TakesFront}
-use Rattle.tinymist_session.specs.Turns.{TurnReads, TurnSays, commands_after, end_after, ends, replies, Passed, Pending, Ahead}
+use Rattle.tinymist_session.specs.Turns.{TurnReads, commands_after, end_after, ends, replies}
 use Rattle.tinymist_session.proofs.Known.{append-append}
 
 -- what is left after the bytes bs, where the bytes are told

@@ -1,9 +1,9 @@
 -- Reads of views and questions to targets: their replies, and what stays of the state.
 use Rattle.std.proofs.Common.{◌≡◌, ℕ, ◌-◌, ◌==◌, Bool, true, false, cond, not, ◌&&◌, List, [], ◌∷◌, ◌++◌, refl, sym, ap, subst, ◌∙◌, Option, Some, None}
-use Rattle.std.specs.Prelude.{slice_get, slice_set}
+use Rattle.std.specs.Prelude.{slice_get}
 use Rattle.std.specs.List.{list_any}
 use Rattle.ty_model.specs.Values.{Id, Answer}
-use Rattle.ty_model.specs.Version.{Version, same_id}
+use Rattle.ty_model.specs.Version.{same_id}
 use Rattle.ty_model.specs.Places.{detached_entry}
 use Rattle.ty_model.specs.Held.{Kept}
 use Rattle.ty_model.specs.Disk.{Told}
@@ -13,8 +13,8 @@ use Rattle.tinymist_session.specs.declared.tagged.TaggedIds.{TaggedIds}
 use Rattle.tinymist_session.specs.Command.{IdWord}
 use Rattle.tinymist_session.specs.Reply.{Reply}
 use Rattle.tinymist_session.specs.Machine.{State, Stepped, view_at, id_for, with_asked, asking, on_named, read_in, read_step, source_in, source_step, listed}
-use Rattle.tinymist_session.specs.Shown.{IsShown, Shows, shown, space_shown, kept_at, target_kept}
-use Rattle.tinymist_session.proofs.Showing.{Found, set_space, target_found, target_missing}
+use Rattle.tinymist_session.specs.Shown.{IsShown, Shows}
+use Rattle.tinymist_session.proofs.Showing.{Found, set_space}
 
 -- asked ids are no part of what is shown
 asked_by : (b : Bool) (k : Kept MockRootResolver) (view : Space) (asked : List Id) → Shows k view → Shows k (cond b (record view { asked = asked }) view)

@@ -5,7 +5,6 @@ use Rattle.ty_model.specs.Held.{Kept}
 use Rattle.tinymist_session.specs.declared.tagged.TaggedIds.{TaggedIds}
 use Rattle.ty_model.specs.Disk.{Told}
 use Rattle.tinymist_vfs.specs.declared.resolver.MockRootResolver.{MockRootResolver}
-use Rattle.tinymist_session.specs.Command.{Command}
 use Rattle.tinymist_session.specs.Machine.{State, step, opening}
 use Rattle.tinymist_session.specs.Reply.{reply_line}
 use Rattle.tinymist_session.specs.Session as session

@@ -1,5 +1,5 @@
 -- What is told of an answer, and an answer that gives way to want of memory.
-use Rattle.std.proofs.Common.{◌≡◌, ◌⊎◌, ℕ, ◌+◌, ◌-◌, ◌^◌, ◌≤◌, min, Bool, true, false, List, [], refl, sym, ap, subst, ◌∙◌, arith, inl, inr, append-nil, Option, Some, Result, Ok, Err}
+use Rattle.std.proofs.Common.{◌≡◌, ◌⊎◌, ℕ, ◌≤◌, Bool, true, false, List, [], refl, sym, ap, ◌∙◌, arith, inl, inr, append-nil, Option, Some, Result, Err}
 use Rattle.std.specs.Io.KnownBytes.{append_known}
 use Rattle.ty_model.specs.Disk.{Told}
 use Rattle.ty_model.specs.Faults.{Rose}
@@ -7,7 +7,7 @@ use Rattle.tinymist_session.specs.ByteSink.{TakesFront}
 use Rattle.tinymist_session.specs.Session.{Limits, replies_to}
 use Rattle.tinymist_session.specs.declared.session.SessionFault.{SessionFault}
 use Rattle.tinymist_session.specs.declared.session.SessionFault.TheVariants.{ReadFault, WriteFault, BadLine, OutOfMemory}
-use Rattle.tinymist_session.specs.Run.{Answered, Written, IsTold}
+use Rattle.tinymist_session.specs.Run.{Answered, IsTold}
 use Rattle.tinymist_session.proofs.Passes.{front, some_written}
 
 later : (a b c : ℕ) → Rose a b → b ≤ c → Rose a c

@@ -36,3 +36,9 @@ IsFailedFlush flush.Failed = ⊤
 -- some front of the piece was taken
 abbrev pub TakesFront : Option (List ℕ) → Option (List ℕ) → List ℕ → Type 0
 TakesFront old new piece = (n : ℕ) × (new ≡ append_known old (take n piece))
+
+-- the counts of a sink that tells nothing of its bytes
+pub record SinkCounts : Type 0 where
+  pub faults : ℕ
+  pub dry : ℕ
+  pub flushed : Bool

@@ -1,10 +1,13 @@
 -- A source and a sink in memory: what they hold, and what their next call does.
-use Rattle.std.specs.Prelude.{ℕ, ◌+◌, ◌-◌, ◌^◌, ◌==◌, if◌then◌else◌, min, nat_lt, Bool, false, List, [], ◌∷◌, length, ⊤, ◌≡◌}
+use Rattle.std.specs.Prelude.{ℕ, ◌+◌, ◌-◌, ◌^◌, ◌==◌, if◌then◌else◌, min, nat_lt, Bool, true, false, List, [], ◌∷◌, ◌++◌, length, take, drop, ⊤, ◌≡◌}
 use Rattle.std.specs.List.{list_any, list_all}
 use Rattle.tinymist_session.specs.declared.source.ReadStep.{ReadStep}
 use Rattle.tinymist_session.specs.declared.source.ReadStep.TheVariants.{Got, End, Failed}
 use Rattle.tinymist_session.specs.declared.sink.WriteStep.{WriteStep}
 use Rattle.tinymist_session.specs.declared.sink.WriteStep.TheVariants as wrote
+use Rattle.tinymist_session.specs.declared.sink.FlushStep.{FlushStep}
+use Rattle.tinymist_session.specs.declared.sink.FlushStep.TheVariants as flush
+use Rattle.tinymist_session.specs.ByteSink.{flushed_by_write}
 
 -- a count after one more, which stands still at its last value
 abbrev pub counted : ℕ → ℕ
@@ -38,6 +41,12 @@ read_by (b ∷ bs) sizes room = Got (at_most_next sizes (min room (length (b ∷
 abbrev pub next_read : SourceHolds → ℕ → ReadStep
 next_read s room = if is_listed s.fails s.calls then Failed else read_by s.left s.sizes room
 
+-- a piece is no longer left and has used up its size, and a failure is counted
+abbrev pub after_read : SourceHolds → ReadStep → SourceHolds
+after_read s (Got n) = record s { left = drop n s.left; sizes = drop 1 s.sizes }
+after_read s End = s
+after_read s Failed = record s { faults = counted s.faults }
+
 -- the bytes that were taken, the most that the next writes take, the calls that fail, and the counts
 pub record SinkHolds : Type 0 where
   pub taken : List ℕ
@@ -52,3 +61,18 @@ pub record SinkHolds : Type 0 where
 abbrev pub WritesNext : SinkHolds → WriteStep → List ℕ → Type 0
 WritesNext s (wrote.Took n) piece = (is_listed s.fails s.calls ≡ false) × (n ≡ at_most_next s.most (length piece))
 WritesNext s wrote.Failed piece = ⊤
+
+-- the count of dry takes after so many bytes of this piece were taken
+abbrev pub dry_after : ℕ → ℕ → List ℕ → ℕ
+dry_after dry n [] = dry
+dry_after dry n (b ∷ bs) = if n == 0 then counted dry else dry
+
+-- a take adds the front of the piece and has used up its number, and a failure is counted
+abbrev pub after_write : SinkHolds → WriteStep → List ℕ → SinkHolds
+after_write s (wrote.Took n) piece = record s { taken = s.taken ++ take n piece; most = drop 1 s.most; dry = dry_after s.dry n piece; flushed = flushed_by_write s.flushed (wrote.Took n) }
+after_write s wrote.Failed piece = record s { faults = counted s.faults }
+
+-- all that was taken has gone on, or a failure is counted
+abbrev pub after_flush : SinkHolds → FlushStep → SinkHolds
+after_flush s flush.Done = record s { flushed = true }
+after_flush s flush.Failed = record s { faults = counted s.faults }

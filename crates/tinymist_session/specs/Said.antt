@@ -18,8 +18,8 @@ use Rattle.tinymist_session.specs.declared.limits.Options.{Options}
 use Rattle.tinymist_session.specs.ChangeSets.{set_said}
 use Rattle.tinymist_session.specs.declared.content.ContentWord.{ContentWord}
 use Rattle.tinymist_session.specs.declared.content.ContentWord.TheVariants as content
-use Rattle.tinymist_session.specs.declared.command.Change.{Change}
-use Rattle.tinymist_session.specs.declared.command.Change.TheVariants.{Remove, Tell}
+use Rattle.tinymist_session.specs.declared.changes.Change.{Change}
+use Rattle.tinymist_session.specs.declared.changes.Change.TheVariants.{Remove, Tell}
 use Rattle.tinymist_session.specs.declared.content.IdWord.{IdWord}
 use Rattle.tinymist_session.specs.declared.content.IdWord.TheVariants as word
 use Rattle.tinymist_session.specs.declared.edit.Edit.{Edit}
@@ -35,16 +35,16 @@ content_said content.Missing = plain.MissingWord
 content_said (content.Refused error) = plain.RefusedWord (refusal_of error)
 
 abbrev pub change_said : Change → Changes
-change_said (Remove path) = removing (string_bytes path.text)
-change_said (Tell path answer) = telling (string_bytes path.text) answer
+change_said (Remove path) = removing path
+change_said (Tell path answer) = telling path answer
 
 abbrev pub id_said : IdWord → plain.IdWord
-id_said (word.Path path) = plain.PathWord (string_bytes path.text)
+id_said (word.Path path) = plain.PathWord path
 id_said (word.Tag tag) = plain.TagWord tag
 
 abbrev pub edit_said : Edit → batch.Item
-edit_said (edit.MapPath path answer) = batch.MapPath (string_bytes path.text) answer
-edit_said (edit.UnmapPath path) = batch.UnmapPath (string_bytes path.text)
+edit_said (edit.MapPath path answer) = batch.MapPath path answer
+edit_said (edit.UnmapPath path) = batch.UnmapPath path
 edit_said edit.Clear = batch.Clear
 edit_said (edit.MapId id answer) = batch.MapId id answer
 edit_said (edit.UnmapId id) = batch.UnmapId id

@@ -1,87 +1,80 @@
-//! A change set whose paths are their cleaned forms.
-ghost use Rattle.std.specs.Prelude.{◌≡◌, map, IfOk};
-ghost use Rattle.std.specs.String.{string_bytes};
-ghost use Rattle.ty_path.specs.Shared.{path_text};
-ghost use Rattle.tinymist_vfs.specs.Items.{file_of, clean_text, clean_file};
-ghost use Rattle.tinymist_session.specs.Grammar.{no_changes, with_changes, removing, telling};
+//! The changes that the fields of a line write.
+ghost use Rattle.std.specs.Prelude.{◌≡◌, IfOk};
+ghost use Rattle.std.specs.Option.{option_map};
+ghost use Rattle.tinymist_session.specs.Grammar.{changes_of, told_of, path_of, content_of};
 ghost use Rattle.tinymist_session.specs.ChangeSets.{set_said};
+ghost use Rattle.tinymist_session.specs.Said.{change_said, fields_of, ReadsChange};
 
-use crate::words::CleanPath;
+use crate::change_set::CleanChanges;
+use crate::content::content;
+use crate::fields::first_field;
+use crate::words::{CleanPath, after_sign, path};
 use std::alloc::Global;
-use std::sync::Arc;
-use tinymist_vfs::FileChangeSet;
 use ty_cells::FileSnapshot;
-use ty_path::{ImmutPath, OutOfMemory};
+use ty_path::OutOfMemory;
 
-/// A change set whose paths are their cleaned forms.
+/// One change of a change set.
 #[derive(Drop)]
-pub struct CleanChanges {
-    pub(crate) set: FileChangeSet,
-    ghost removes: { map clean_text set.removes.items ≡ map path_text set.removes.items },
-    ghost inserts: { map clean_file set.inserts.items ≡ map file_of set.inserts.items },
+enum Change {
+    /// The path is no longer told.
+    Remove(CleanPath),
+    /// The path is told to be this.
+    Tell(CleanPath, FileSnapshot),
 }
 
-impl CleanChanges {
-    /// No change.
-    pub(crate) fn new(alloc: Global) -> CleanChanges
-        ensures { set_said result.set ≡ no_changes }
-    {
-        CleanChanges {
-            set: FileChangeSet {
-                removes: Vec::new(alloc),
-                inserts: Vec::new(alloc),
-            },
-        }
+/// The changes that all fields write.
+pub(crate) fn changes(
+    alloc: Global,
+    fields: Option<&str>,
+) -> Result<Option<CleanChanges>, OutOfMemory>
+    ensures { IfOk result (λ all. option_map (λ c. set_said c.set) all ≡ changes_of (fields_of fields.entry)) }
+{
+    let mut all = CleanChanges::new(alloc);
+    let mut left = fields;
+    while let Some(text) = left {
+        let Some((change, rest)) = first_change(alloc, text)? else {
+            return Ok(None);
+        };
+        all = match change {
+            Change::Remove(path) => all.with_removal(alloc, path)?,
+            Change::Tell(path, answer) => all.with_file(alloc, path, answer)?,
+        };
+        left = rest;
     }
+    Ok(Some(all))
+}
 
-    /// The paths that are no longer told.
-    pub fn removes(&self) -> &[ImmutPath]
-        ensures { map path_text result.now ≡ (set_said self.now.set).removes }
-    {
-        &self.set.removes
+/// The change that the first fields write, and the fields after it.
+fn first_change(alloc: Global, fields: &str) -> Result<Option<(Change, Option<&str>)>, OutOfMemory>
+    ensures { IfOk result (ReadsChange fields.now) }
+{
+    let (word, rest) = first_field(fields);
+    if let Some(removed) = after_sign('-', word) {
+        return match path(alloc, removed)? {
+            Some(path) => Ok(Some((Change::Remove(path), rest))),
+            None => Ok(None),
+        };
     }
+    let (Some(told), Some(rest)) = (after_sign('+', word), rest) else {
+        return Ok(None);
+    };
+    let (says, rest) = first_field(rest);
+    match told_file(alloc, told, says)? {
+        Some(file) => Ok(Some((file, rest))),
+        None => Ok(None),
+    }
+}
 
-    /// The files that are told, of which the last of a path stands.
-    pub fn inserts(&self) -> &[(ImmutPath, FileSnapshot)]
-        ensures { map file_of result.now ≡ (set_said self.now.set).inserts }
-    {
-        &self.set.inserts
-    }
-
-    /// These changes, and then a path that is no longer told.
-    pub(crate) fn with_removal(
-        self,
-        alloc: Global,
-        path: CleanPath,
-    ) -> Result<CleanChanges, OutOfMemory>
-        ensures { IfOk result (λ all. set_said all.set ≡ with_changes (set_said self.set) (removing (string_bytes path.text))) }
-    {
-        let FileChangeSet {
-            mut removes,
-            inserts,
-        } = self.set;
-        removes.push(Arc::new(alloc, path.text)?)?;
-        Ok(CleanChanges {
-            set: FileChangeSet { removes, inserts },
-        })
-    }
-
-    /// These changes, and then a file that is told.
-    pub(crate) fn with_file(
-        self,
-        alloc: Global,
-        path: CleanPath,
-        answer: FileSnapshot,
-    ) -> Result<CleanChanges, OutOfMemory>
-        ensures { IfOk result (λ all. set_said all.set ≡ with_changes (set_said self.set) (telling (string_bytes path.text) answer)) }
-    {
-        let FileChangeSet {
-            removes,
-            mut inserts,
-        } = self.set;
-        inserts.push((Arc::new(alloc, path.text)?, answer))?;
-        Ok(CleanChanges {
-            set: FileChangeSet { removes, inserts },
-        })
-    }
+/// A path that is told, and its content.
+fn told_file(alloc: Global, word: &str, says: &str) -> Result<Option<Change>, OutOfMemory>
+    ensures { IfOk result (λ file. option_map change_said file ≡ told_of (path_of word.now) (content_of says.now)) }
+{
+    let Some(path) = path(alloc, word)? else {
+        return Ok(None);
+    };
+    let Some(content) = content(alloc, says)? else {
+        return Ok(None);
+    };
+    let answer = content.answer_at(alloc, path.as_str())?;
+    Ok(Some(Change::Tell(path, answer)))
 }

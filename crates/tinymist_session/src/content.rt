@@ -1,9 +1,10 @@
 //! Contents and ids as lines write them.
-ghost use Rattle.std.specs.Prelude.{◌≡◌, IfOk};
+ghost use Rattle.std.specs.Prelude.{◌≡◌, map, IfOk};
 ghost use Rattle.std.specs.Option.{option_map};
 ghost use Rattle.tinymist_session.specs.Grammar as grammar;
-ghost use Rattle.tinymist_session.specs.Said.{content_said, id_said};
+ghost use Rattle.tinymist_session.specs.Said.{content_said, id_said, fields_of};
 
+use crate::fields::first_field;
 use crate::words::{CleanPath, after_sign, number, path};
 use hex::FromHexError;
 use std::alloc::Global;
@@ -51,23 +52,17 @@ impl ContentWord {
 pub(crate) fn content(alloc: Global, word: &str) -> Result<Option<ContentWord>, OutOfMemory>
     ensures { IfOk result (λ content. option_map content_said content ≡ grammar.content_of word.now) }
 {
-    if word == "!not-found" {
-        Ok(Some(ContentWord::Missing))
-    } else if word == "!access-denied" {
-        Ok(Some(ContentWord::Refused(FileError::AccessDenied)))
-    } else if word == "!is-directory" {
-        Ok(Some(ContentWord::Refused(FileError::IsDirectory)))
-    } else if word == "!not-source" {
-        Ok(Some(ContentWord::Refused(FileError::NotSource)))
-    } else if word == "!invalid-utf8" {
-        Ok(Some(ContentWord::Refused(FileError::InvalidUtf8)))
-    } else if word == "!other" {
-        Ok(Some(ContentWord::Refused(FileError::Other(None))))
-    } else {
-        match after_sign('=', word) {
+    match word {
+        "!not-found" => Ok(Some(ContentWord::Missing)),
+        "!access-denied" => Ok(Some(ContentWord::Refused(FileError::AccessDenied))),
+        "!is-directory" => Ok(Some(ContentWord::Refused(FileError::IsDirectory))),
+        "!not-source" => Ok(Some(ContentWord::Refused(FileError::NotSource))),
+        "!invalid-utf8" => Ok(Some(ContentWord::Refused(FileError::InvalidUtf8))),
+        "!other" => Ok(Some(ContentWord::Refused(FileError::Other(None)))),
+        _ => match after_sign('=', word) {
             Some(digits) => bytes(alloc, digits),
             None => Ok(None),
-        }
+        },
     }
 }
 
@@ -96,4 +91,21 @@ pub(crate) fn id(alloc: Global, word: &str) -> Result<Option<IdWord>, OutOfMemor
         Some(path) => Ok(Some(IdWord::Path(path))),
         None => Ok(None),
     }
+}
+
+/// The ids that all fields write.
+pub(crate) fn ids(alloc: Global, fields: Option<&str>) -> Result<Option<Vec<IdWord>>, OutOfMemory>
+    ensures { IfOk result (λ all. option_map (λ ids. map id_said ids.items) all ≡ grammar.ids_of (fields_of fields.entry)) }
+{
+    let mut all = Vec::new(alloc);
+    let mut left = fields;
+    while let Some(text) = left {
+        let (word, rest) = first_field(text);
+        let Some(id) = id(alloc, word)? else {
+            return Ok(None);
+        };
+        all.push(id)?;
+        left = rest;
+    }
+    Ok(Some(all))
 }

@@ -1,5 +1,5 @@
 //! Edits of a space.
-use crate::changes::CleanChanges;
+use crate::change_set::CleanChanges;
 use crate::words::CleanPath;
 use ty_cells::FileSnapshot;
 use ty_syntax::FileId;

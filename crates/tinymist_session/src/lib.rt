@@ -1,10 +1,12 @@
 //! A session over a stream of command lines: its grammar, its machine, its loop, and the program's top call.
 #![tactic(auto)]
 
+mod change_set;
 mod changes;
 mod command;
 mod content;
 mod edit;
+mod fields;
 mod limits;
 mod machine;
 mod memory;
@@ -22,13 +24,13 @@ mod tagged;
 mod tests;
 mod words;
 
-pub use changes::CleanChanges;
+pub use change_set::CleanChanges;
 pub use command::{Command, read_command};
 pub use content::{ContentWord, IdWord};
 pub use edit::Edit;
 pub use limits::{DEFAULT_LIMITS, Limits};
 pub use memory::{MemorySink, MemorySource};
-pub use program::{BAD_WORDS, OUT_OF_MEMORY, run_program};
+pub use program::{bad_words, out_of_memory, run_program};
 pub use reply::{Reply, line_of};
 pub use session::{SessionFault, run_session};
 pub use sink::{ByteSink, FlushStep, WriteStep};

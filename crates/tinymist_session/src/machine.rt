@@ -170,7 +170,7 @@ impl Machine {
     {
         match word {
             IdWord::Path(path) => {
-                WorkspaceResolver::file_with_parent_root(self.alloc, path.text.as_str())
+                WorkspaceResolver::file_with_parent_root(self.alloc, path.as_str())
             }
             IdWord::Tag(tag) => match self.tags.at(*tag) {
                 Some(id) => Ok(Some(id.share(self.alloc)?)),

@@ -2,7 +2,7 @@
 ghost use Rattle.std.specs.Prelude.{◌≡◌, ◌↔◌, ◌<◌, ◌≤◌, ◌++◌, drop, length, Some, IsTrue, false, ⊤};
 ghost use Rattle.tinymist_session.specs.LineSource.{Reads, IsFailedRead, HasCause};
 ghost use Rattle.tinymist_session.specs.ByteSink.{Writes, IsFailedWrite, IsDry, flushed_by_write, flushed_by, IsFailedFlush};
-ghost use Rattle.tinymist_session.specs.Memory.{counted, is_listed, are_positive, at_most_next, read_by, next_read, WritesNext};
+ghost use Rattle.tinymist_session.specs.Memory.{counted, is_listed, are_positive, at_most_next, read_by, next_read, after_read, WritesNext, after_write, after_flush};
 
 use crate::sink::{ByteSink, FlushStep, WriteStep};
 use crate::source::{LineSource, ReadStep};
@@ -83,6 +83,7 @@ impl LineSource for MemorySource {
         ensures bytes { Reads (Some self.old.left) (Some self.new.left) result buf.old buf.new }
         ensures cause { HasCause (IsFailedRead result) self.old.faults self.new.faults }
         ensures next { result ≡ next_read self.old (length buf.old) }
+        ensures after { self.new ≡ after_read (record self.old { calls = counted self.old.calls }) result }
     {
         if self.fails_now() {
             self.fail();
@@ -116,7 +117,7 @@ impl MemorySource {
     fn give(&mut self, buf: &mut [u8]) -> ReadStep
         ensures bytes { Reads (Some self.old.left) (Some self.new.left) result buf.old buf.new }
         ensures next { result ≡ read_by self.old.left self.old.sizes (length buf.old) }
-        ensures faults { self.new.faults ≡ self.old.faults }
+        ensures after { self.new ≡ after_read self.old result }
     {
         let left = self.bytes.len() - self.at;
         if left == 0 {
@@ -222,6 +223,7 @@ impl ByteSink for MemorySink {
         ensures thirst { HasCause (IsDry result piece.now) self.old.dry self.new.dry }
         ensures flushed { self.new.flushed ≡ flushed_by_write self.old.flushed result }
         ensures next { WritesNext self.old result piece.now }
+        ensures after { self.new ≡ after_write (record self.old { calls = counted self.old.calls }) result piece.now }
     {
         if self.fails_now() {
             self.fail();
@@ -247,6 +249,7 @@ impl ByteSink for MemorySink {
         ensures thirst { self.old.dry ≤ self.new.dry }
         ensures flushed { self.new.flushed ≡ flushed_by self.old.flushed result }
         ensures next { (result ≡ FlushStep.Failed) ↔ IsTrue (is_listed self.old.fails self.old.calls) }
+        ensures after { self.new ≡ after_flush (record self.old { calls = counted self.old.calls }) result }
     {
         if self.fails_now() {
             self.fail();

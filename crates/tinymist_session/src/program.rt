@@ -14,10 +14,10 @@ use std::alloc::Global;
 use ty_cells::PathAccessModel;
 
 /// The status where no memory was left.
-pub const OUT_OF_MEMORY: u8 = 5;
+const OUT_OF_MEMORY: u8 = 5;
 
 /// The status of words of no stated form.
-pub const BAD_WORDS: u8 = 6;
+const BAD_WORDS: u8 = 6;
 
 /// The fault line where no memory was left.
 const NO_MEMORY: &str = "out of memory\n";
@@ -44,11 +44,28 @@ pub fn run_program<S: LineSource, W: ByteSink, F: ByteSink, M: PathAccessModel>(
         × IsTold (fault_line r) (F.taken faults.old) (F.taken faults.new) (F.faults faults.old) (F.faults faults.new) (F.dry faults.old) (F.dry faults.new) }
 {
     let Some(limits) = limits_of(words) else {
-        tell(faults, "bad words\n");
-        return BAD_WORDS;
+        return bad_words(faults);
     };
     let answer = run_session(alloc, source, sink, disk, limits);
     exit_status(tell_answer(alloc, faults, answer))
+}
+
+/// Tells that the words are of no stated form, and answers the status.
+pub fn bad_words<F: ByteSink>(faults: &mut F) -> u8
+    ensures status { result ≡ 6 }
+    ensures told { IsTold bad_words_line (F.taken faults.old) (F.taken faults.new) (F.faults faults.old) (F.faults faults.new) (F.dry faults.old) (F.dry faults.new) }
+{
+    tell(faults, "bad words\n");
+    BAD_WORDS
+}
+
+/// Tells that no memory was left, and answers the status.
+pub fn out_of_memory<F: ByteSink>(faults: &mut F) -> u8
+    ensures status { result ≡ 5 }
+    ensures told { IsTold (fault_line (Err SessionFault.OutOfMemory)) (F.taken faults.old) (F.taken faults.new) (F.faults faults.old) (F.faults faults.new) (F.dry faults.old) (F.dry faults.new) }
+{
+    tell(faults, NO_MEMORY);
+    OUT_OF_MEMORY
 }
 
 /// Tells the line of an answer, and gives the answer that was told: want of memory where the line found none.

@@ -171,7 +171,7 @@ fn text_line(alloc: Global, text: &str) -> Result<Vec<u8>, AllocError>
     hex_line(alloc, b"text\t", text.as_bytes())
 }
 
-/// A word and the digits of bytes. The digits are written once, where they stand in the line.
+/// A word and the digits of bytes. The line takes its memory once, and the digits are encoded where they stand in it.
 fn hex_line(alloc: Global, word: &[u8], bytes: &[u8]) -> Result<Vec<u8>, AllocError>
     ensures { IfOk result (λ line. line.items ≡ word.now ++ encode_lower bytes.now ++ 10 ∷ []) }
 {

@@ -1,17 +1,20 @@
 //! Standard input and output, or whatever else the library reads and writes. They tell nothing of their bytes.
-ghost use Rattle.std.specs.Prelude.{◌≡◌, ◌≤◌, None, IfOk, length, drop};
+ghost use Rattle.std.specs.Prelude.{◌≡◌, ◌≤◌, ℕ, None, IfOk, length, drop, false};
+ghost use Rattle.tinymist_session.specs.ByteSink.{SinkCounts};
 
 use crate::memory::copy_front;
 use crate::sink::{ByteSink, FlushStep, WriteStep};
 use crate::source::{LineSource, ReadStep};
 use std::alloc::Global;
-use std::io::{self, Read, Write};
+use std::io::{self, ErrorKind, Read, Write};
+use std::marker::Model;
 use ty_path::OutOfMemory;
 
 /// The most bytes that one read or write hands to the system.
 pub const PIECE: usize = 65_536;
 
-/// A reader of the library as a source. What it gives is not proved: this is a thin edge.
+/// A reader of the library as a source. What it gives is not proved: this is a thin edge. Contracts see the
+/// count of faults.
 #[derive(Drop)]
 pub struct StdinSource<R: Read + Drop> {
     inner: R,
@@ -19,9 +22,17 @@ pub struct StdinSource<R: Read + Drop> {
     faults: u64,
 }
 
+impl<R: Read + Drop> Model for StdinSource<R> {
+    ghost Value = { ℕ };
+
+    ghost view = { λ s. s.faults };
+}
+
 impl<R: Read + Drop> StdinSource<R> {
     /// The source over a reader, with a buffer of one piece.
-    pub fn new(alloc: Global, inner: R) -> Result<StdinSource<R>, OutOfMemory> {
+    pub fn new(alloc: Global, inner: R) -> Result<StdinSource<R>, OutOfMemory>
+        ensures { IfOk result (λ faults. faults ≡ 0) }
+    {
         Ok(StdinSource {
             inner,
             piece: vec![in alloc; 0; PIECE]?,
@@ -35,15 +46,29 @@ fn read_front<R: Read>(inner: &mut R, piece: &mut [u8], buf: &mut [u8]) -> io::R
     ensures { IfOk result (λ n. (n ≤ length buf.new) × (drop n buf.new ≡ drop n buf.old)) }
 {
     let room = buf.len().min(piece.len());
-    let n = inner.read(&mut piece[..room])?;
+    let n = read_again(inner, &mut piece[..room])?;
     copy_front(&piece[..n], buf);
     Ok(n)
+}
+
+/// Reads, and reads again where that was interrupted.
+fn read_again<R: Read>(inner: &mut R, buf: &mut [u8]) -> io::Result<usize>
+    ensures { IfOk result (λ n. n ≤ length buf.new) }
+{
+    for _ in 0..u64::MAX {
+        match inner.read(buf) {
+            Ok(n) => return Ok(n),
+            Err(error) if error.kind() == ErrorKind::Interrupted => {}
+            Err(error) => return Err(error),
+        }
+    }
+    Err(io::Error::from(ErrorKind::Interrupted))
 }
 
 impl<R: Read + Drop> LineSource for StdinSource<R> {
     ghost left = { λ _. None };
 
-    ghost faults = { λ s. s.faults };
+    ghost faults = { λ faults. faults };
 
     fn read(&mut self, buf: &mut [u8]) -> ReadStep {
         match read_front(&mut self.inner, &mut self.piece, buf) {
@@ -56,7 +81,8 @@ impl<R: Read + Drop> LineSource for StdinSource<R> {
     }
 }
 
-/// A writer of the library as a sink. What becomes of the bytes is not proved: this is a thin edge.
+/// A writer of the library as a sink. What becomes of the bytes is not proved: this is a thin edge. Contracts
+/// see the counts.
 #[derive(Drop)]
 pub struct StdSink<W: Write + Drop> {
     inner: W,
@@ -65,9 +91,17 @@ pub struct StdSink<W: Write + Drop> {
     flushed: bool,
 }
 
+impl<W: Write + Drop> Model for StdSink<W> {
+    ghost Value = { SinkCounts };
+
+    ghost view = { λ s. record { faults = s.faults; dry = s.dry; flushed = s.flushed } };
+}
+
 impl<W: Write + Drop> StdSink<W> {
     /// The sink over a writer.
-    pub fn new(inner: W) -> StdSink<W> {
+    pub fn new(inner: W) -> StdSink<W>
+        ensures { result ≡ record { faults = 0; dry = 0; flushed = false } }
+    {
         StdSink {
             inner,
             faults: 0,

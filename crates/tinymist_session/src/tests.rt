@@ -4,6 +4,7 @@ ghost use Rattle.tinymist_session.specs.Memory.{are_positive};
 
 mod clean;
 mod ids;
+mod memory;
 mod sources;
 
 use crate::{Limits, MemorySink, MemorySource, SessionFault, run_program, run_session};

@@ -1,12 +1,13 @@
-//! The fields of a line, and the words that stand in them.
-ghost use Rattle.std.specs.Prelude.{◌≡◌, ◌<◌, ◌∷◌, [], IfOk, IfSome, IfNone, None, true, false};
+//! The text of a line, and the words that stand in its fields.
+ghost use Rattle.std.specs.Prelude.{◌≡◌, ℕ, List, ◌<◌, ◌∷◌, IfOk, IfSome, IfNone, None, true, false};
 ghost use Rattle.std.specs.Option.{option_map, option_and_then};
 ghost use Rattle.std.specs.List.{list_all};
 ghost use Rattle.std.specs.String.{string_bytes};
-ghost use Rattle.ty_model.specs.Paths.{parts_at, clean};
+ghost use Rattle.ty_model.specs.Paths.{clean};
 ghost use Rattle.tinymist_session.specs.Grammar as grammar;
 
 use std::alloc::Global;
+use std::marker::Model;
 use ty_path::{OutOfMemory, clean, is_absolute};
 use ty_syntax::{PathFault, VirtualPath};
 
@@ -25,14 +26,6 @@ fn is_plain(line: &[u8]) -> bool
     ensures { result ≡ list_all grammar.is_plain line.now }
 {
     line.iter().all(|b| (*b >= 32 && *b != 127) || *b == b'\t')
-}
-
-/// The first field, and the rest of the line after its tab.
-pub(crate) fn cut(text: &str) -> Option<(&str, &str)>
-    ensures some { IfSome result (λ parts. parts_at 9 text.now ≡ parts.0.now ∷ parts_at 9 parts.1.now) }
-    ensures none { IfNone result (parts_at 9 text.now ≡ text.now ∷ []) }
-{
-    text.split_once('\t')
 }
 
 /// A number in decimal without leading zeros.
@@ -69,25 +62,41 @@ fn digits_from(start: u64, digits: &[u8]) -> Option<u64>
     Some(n)
 }
 
-/// A path that is its cleaned form.
+/// A path that is its cleaned form. Contracts see its bytes.
 #[derive(Drop)]
 pub struct CleanPath {
-    pub(crate) text: String,
-    ghost is_clean: { clean (string_bytes text) ≡ string_bytes text },
+    text: String,
+}
+
+impl Model for CleanPath {
+    ghost Value = { List ℕ };
+
+    ghost view = { λ p. string_bytes p.text };
+
+    ghost invariant = { λ p. clean (string_bytes p.text) ≡ string_bytes p.text };
 }
 
 impl CleanPath {
     /// The path's text.
     pub fn as_str(&self) -> &str
-        ensures { result.now ≡ string_bytes self.now.text }
+        ensures text { result.now ≡ self.now }
+        ensures clean { clean self.now ≡ self.now }
     {
         self.text.as_str()
+    }
+
+    /// The path's text, given away.
+    pub(crate) fn into_string(self) -> String
+        ensures text { string_bytes result ≡ self }
+        ensures clean { clean self ≡ self }
+    {
+        self.text
     }
 }
 
 /// The word, where it is an absolute path that is its cleaned form.
 pub(crate) fn path(alloc: Global, word: &str) -> Result<Option<CleanPath>, OutOfMemory>
-    ensures { IfOk result (λ path. option_map (λ p. string_bytes p.text) path ≡ grammar.path_of word.now) }
+    ensures { IfOk result (λ path. path ≡ grammar.path_of word.now) }
 {
     if !is_absolute(word) {
         return Ok(None);

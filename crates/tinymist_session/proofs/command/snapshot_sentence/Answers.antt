@@ -1,4 +1,4 @@
-use Rattle.std.proofs.Common.{◌≡◌, refl}
+use Rattle.std.proofs.Common.{refl}
 use Rattle.ty_model.proofs.Cuts.{some_parts}
 use Rattle.tinymist_session.proofs.command.snapshot_sentence.Goals as goal
 

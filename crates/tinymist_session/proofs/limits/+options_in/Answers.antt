@@ -1,4 +1,4 @@
-use Rattle.std.proofs.Common.{◌≡◌, ◌+◌, sym, arith, length, map, inl, inr}
+use Rattle.std.proofs.Common.{sym, arith, map, inl, inr}
 use Rattle.std.proofs.lemmas.List.{length-map}
 use Rattle.std.specs.String.{string_bytes}
 use Rattle.tinymist_session.proofs.Options.{no_options}

@@ -1,5 +1,4 @@
-use Rattle.std.proofs.Common.{◌≡◌, map, sym, ap, subst, ◌∙◌, Option, Some}
-use Rattle.std.specs.String.{string_bytes}
+use Rattle.std.proofs.Common.{◌≡◌, subst}
 use Rattle.tinymist_session.specs.Session.{Limits}
 use Rattle.tinymist_session.specs.Run.{Answered}
 use Rattle.tinymist_session.specs.Turns.{limits_of}

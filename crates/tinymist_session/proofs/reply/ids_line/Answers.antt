@@ -1,6 +1,5 @@
 use Rattle.std.proofs.Common.{◌≡◌, ◌∙◌, ◌++◌, ◌∷◌, [], ap, sym, arith, codes, List, ℕ, map, take, length}
 use Rattle.std.proofs.Math.Seq.{take-length}
-use Rattle.std.specs.String.{string_bytes}
 use Rattle.ty_model.specs.Values.{Id}
 use Rattle.tinymist_session.specs.Reply.{id_word}
 use Rattle.tinymist_session.proofs.Tabs.{tabs, tabs-next, tabbed_is}

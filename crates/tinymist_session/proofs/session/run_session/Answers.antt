@@ -1,4 +1,4 @@
-use Rattle.std.proofs.Common.{◌≡◌, ◌∙◌}
+use Rattle.std.proofs.Common.{◌∙◌}
 use Rattle.tinymist_session.specs.Session.{replies_to}
 use Rattle.tinymist_session.specs.Turns.{limits_of}
 use Rattle.tinymist_session.proofs.Passes.{ends_flushed, written_flushed}

@@ -1,4 +1,4 @@
-use Rattle.std.proofs.Common.{◌≡◌, ◌+◌, ◌-◌, length, take, drop, ap, ◌∙◌, arith, length-take, length-drop, Option, List, ℕ}
+use Rattle.std.proofs.Common.{◌-◌, length, take, drop, ap, ◌∙◌, arith, length-take, length-drop, Option, List, ℕ}
 use Rattle.std.specs.Io.KnownBytes.{append_known}
 use Rattle.tinymist_session.proofs.Known.{append-taken}
 use Rattle.tinymist_session.proofs.sink.write_all.Goals as goal

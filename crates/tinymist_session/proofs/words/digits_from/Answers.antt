@@ -1,6 +1,6 @@
-use Rattle.std.proofs.Common.{◌≡◌, ◌+◌, ◌*◌, ◌-◌, ◌≤◌, ◌^◌, get_or, sym, ap, ◌∙◌, arith, Option, ℕ}
+use Rattle.std.proofs.Common.{sym, ap, ◌∙◌, arith}
 use Rattle.std.specs.Option.{option_and_then}
-use Rattle.tinymist_session.specs.Grammar.{decimal_from, fits_64}
+use Rattle.tinymist_session.specs.Grammar.{fits_64}
 use Rattle.tinymist_session.proofs.Decimals.{step_big, all_read}
 use Rattle.tinymist_session.proofs.words.digits_from.Goals as goal
 

@@ -1,6 +1,5 @@
-use Rattle.std.proofs.Common.{◌≡◌, ap, sym, subst, ◌∙◌, ℕ, List, Option, Some, None}
+use Rattle.std.proofs.Common.{ap, sym, ◌∙◌, List, Some, None}
 use Rattle.std.proofs.lemmas.Result.{IfOk-weaker}
-use Rattle.ty_model.specs.Version.{Version}
 use Rattle.std.proofs.Common.{map, Vec, Global}
 use Rattle.std.specs.Option.{option_map}
 use Rattle.ty_model.specs.Values.{Id}

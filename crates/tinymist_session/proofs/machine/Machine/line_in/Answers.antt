@@ -1,5 +1,4 @@
-use Rattle.std.proofs.Common.{◌≡◌, ap, sym, subst, ◌∙◌, ℕ, List, Option, Some, None}
-use Rattle.std.proofs.lemmas.Result.{IfOk-weaker}
+use Rattle.std.proofs.Common.{ap, sym, ◌∙◌, ℕ, List, Some, None}
 use Rattle.ty_model.specs.Version.{Version}
 use Rattle.tinymist_session.specs.Machine.{view_at}
 use Rattle.tinymist_session.specs.Said.{id_said}

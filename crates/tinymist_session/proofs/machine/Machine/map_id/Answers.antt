@@ -1,6 +1,5 @@
-use Rattle.std.proofs.Common.{◌≡◌, ap, sym, subst, ◌∙◌, ℕ, List, Option, Some, None}
+use Rattle.std.proofs.Common.{◌≡◌, ap, sym, subst, ◌∙◌, ℕ, List, Some, None}
 use Rattle.std.proofs.lemmas.Result.{IfOk-weaker}
-use Rattle.ty_model.specs.Version.{Version}
 use Rattle.ty_model.specs.Batch as batch
 use Rattle.ty_model.specs.Values.{Id, Answer}
 use Rattle.tinymist_session.specs.Grammar.{answer_at}

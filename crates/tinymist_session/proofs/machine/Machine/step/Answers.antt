@@ -1,4 +1,4 @@
-use Rattle.std.proofs.Common.{◌≡◌, refl, map}
+use Rattle.std.proofs.Common.{refl, map}
 use Rattle.std.proofs.lemmas.Result.{IfOk-weaker}
 use Rattle.ty_model.specs.Places.{place_of}
 use Rattle.tinymist_session.specs.Machine.{id_for, ids_for, space_at, replied, clean_reply}

@@ -1,4 +1,4 @@
-use Rattle.std.proofs.Common.{◌≡◌, ap, ◌∙◌, ℕ, arith, length}
+use Rattle.std.proofs.Common.{ap, arith}
 use Rattle.tinymist_session.specs.Reply.{ViewNumber}
 use Rattle.tinymist_session.proofs.Edits.{snapshot_top}
 use Rattle.tinymist_session.proofs.Showing.{snapshot_number, snapshot_is_shown}

@@ -1,11 +1,8 @@
-use Rattle.std.proofs.Common.{◌≡◌, ap, sym, subst, ◌∙◌, ℕ, List, Option, Some, None}
+use Rattle.std.proofs.Common.{ap, sym, subst, ◌∙◌, Some, None}
 use Rattle.std.proofs.lemmas.Result.{IfOk-weaker}
-use Rattle.ty_model.specs.Version.{Version}
 use Rattle.ty_model.specs.Batch as batch
-use Rattle.ty_model.specs.Values.{Id}
-use Rattle.tinymist_session.specs.Grammar.{answer_at}
 use Rattle.tinymist_session.specs.Machine.{Stepped, space_at}
-use Rattle.tinymist_session.specs.Said.{id_said, content_said}
+use Rattle.tinymist_session.specs.Said.{id_said}
 use Rattle.tinymist_session.specs.Shown.{IsShown}
 use Rattle.tinymist_session.proofs.Showing.{target_found, target_missing, id_is, bad_view, bad_id, no_space, no_name}
 use Rattle.tinymist_session.proofs.Edits.{named_edit}

@@ -1,6 +1,6 @@
-use Rattle.std.proofs.Common.{◌≡◌, ℕ, ◌≤◌, ◌<◌, ◌+◌, ◌-◌, min, drop, length, sym, ap, ◌∙◌, arith, Some}
+use Rattle.std.proofs.Common.{ℕ, ◌<◌, ◌+◌, ◌-◌, min, drop, length, sym, ap, ◌∙◌, arith, Some}
 use Rattle.tinymist_session.specs.Memory.{SourceHolds, at_most_next, read_by}
-use Rattle.tinymist_session.proofs.Pieces.{piece_held, read_none, read_some}
+use Rattle.tinymist_session.proofs.Pieces.{piece_held, piece_gone, read_none, read_some}
 use Rattle.tinymist_session.proofs.memory.MemorySource.give.Goals as goal
 
 pub returns-then-left-eq0-clause-next : goal.returns-then-left-eq0-clause-next
@@ -25,3 +25,8 @@ returns-clause-bytes c =
           let more : 0 < c.at_most-n.result = some c.self.invariant.2 (omega arith) in
           absurd (omega arith),
     )
+
+pub returns-clause-after : goal.returns-clause-after
+returns-clause-after c =
+    let s = c.self.inside in
+    piece_gone s.bytes.items s.sizes.items s.fails.items s.at s.given c.min-self-inside.result c.at_most-n.result s.calls s.faults c.args.self.now (c.min-self-inside.ensures ∙ ap (min (s.given + 1)) (c.len-2.ensures ∙ s.sizes.ok.0)) c.self.view_is

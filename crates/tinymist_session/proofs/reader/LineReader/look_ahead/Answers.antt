@@ -1,4 +1,4 @@
-use Rattle.std.proofs.Common.{◌≡◌, ◌-◌, ◌<◌, ◌≤◌, length, take, drop, refl, arith, length-take, length-drop}
+use Rattle.std.proofs.Common.{◌-◌, drop, refl, arith, length-take, length-drop}
 use Rattle.tinymist_session.specs.LineReader.{held_of}
 use Rattle.tinymist_session.proofs.Known.{fills_finds, held_none}
 use Rattle.tinymist_session.proofs.Bounds.{held_within, taken_now, taken_fresh}

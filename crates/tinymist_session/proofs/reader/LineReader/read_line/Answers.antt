@@ -1,5 +1,4 @@
-use Rattle.std.proofs.Common.{◌≡◌, ap, ◌+◌, ◌-◌, ◌≤◌, ◌++◌, ◌∙◌, sym, arith, length, length-append}
-use Rattle.tinymist_session.specs.Lf.{IsLine}
+use Rattle.std.proofs.Common.{ap, ◌+◌, ◌++◌, ◌∙◌, sym, arith, length, length-append}
 use Rattle.tinymist_session.specs.LineReader.{held_of, line_of, ahead}
 use Rattle.tinymist_session.proofs.Known.{prepend-prepend, whole-read, more-read, both_lines}
 use Rattle.tinymist_session.proofs.Bounds.{held_within, taken_now, taken_more}

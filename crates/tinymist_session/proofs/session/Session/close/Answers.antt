@@ -1,4 +1,3 @@
-use Rattle.std.proofs.Common.{◌≡◌}
 use Rattle.tinymist_session.specs.LineReader.{ahead}
 use Rattle.tinymist_session.proofs.Passes.{byte_over}
 use Rattle.tinymist_session.proofs.session.Session.close.Goals as goal

@@ -1,10 +1,9 @@
-use Rattle.std.proofs.Common.{◌≡◌, ◌+◌, ◌≤◌, ◌++◌, ◌∷◌, [], List, ℕ, Some, Ok, Err, Bool, refl, sym, ap, subst, ◌∙◌, arith}
+use Rattle.std.proofs.Common.{◌≡◌, ◌++◌, ◌∷◌, [], ℕ, Ok, Err, Bool, refl, sym, ap, subst, ◌∙◌, arith}
 use Rattle.std.proofs.lemmas.Result.{IfOk-weaker}
 use Rattle.std.specs.Io.KnownBytes.{append_known}
-use Rattle.tinymist_session.specs.Machine.{opening}
 use Rattle.tinymist_session.specs.LineReader.{ahead, held_of}
-use Rattle.tinymist_session.specs.Session.{end_of, replies_to}
-use Rattle.tinymist_session.specs.Run.{EndFits, Written, UnlessCutOff}
+use Rattle.tinymist_session.specs.Session.{replies_to}
+use Rattle.tinymist_session.specs.Run.{UnlessCutOff}
 use Rattle.tinymist_session.specs.Turns.{limits_of, ends, replies, PassEnds, PassSays}
 use Rattle.tinymist_session.proofs.Known.{start_ahead, end_ahead}
 use Rattle.tinymist_session.proofs.Lines.{end_start}

@@ -1,6 +1,6 @@
 use Rattle.std.proofs.Common.{refl}
 use Rattle.ty_model.proofs.Cuts.{some_parts}
-use Rattle.tinymist_session.proofs.command.one_field.Goals as goal
+use Rattle.tinymist_session.proofs.fields.one_field.Goals as goal
 
 pub returns-in-Some : goal.returns-in-Some
 returns-in-Some c =

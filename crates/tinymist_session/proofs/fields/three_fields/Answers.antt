@@ -1,6 +1,6 @@
-use Rattle.std.proofs.Common.{◌≡◌, refl}
+use Rattle.std.proofs.Common.{refl}
 use Rattle.ty_model.proofs.Cuts.{some_parts}
-use Rattle.tinymist_session.proofs.command.three_fields.Goals as goal
+use Rattle.tinymist_session.proofs.fields.three_fields.Goals as goal
 
 pub returns-in-Some-clause-none : goal.returns-in-Some-clause-none
 returns-in-Some-clause-none c =

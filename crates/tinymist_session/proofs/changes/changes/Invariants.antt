@@ -3,7 +3,7 @@ use Rattle.std.specs.Option.{option_map}
 use Rattle.tinymist_session.specs.ChangeSets.{set_said}
 use Rattle.tinymist_session.specs.Grammar.{with_changes, changes_of}
 use Rattle.tinymist_session.specs.Said.{fields_of}
-use Rattle.tinymist_session.proofs.command.changes.Given as goal
+use Rattle.tinymist_session.proofs.changes.changes.Given as goal
 
 abbrev pub invariant-loop-left : goal.invariant-loop-left
 invariant-loop-left l = changes_of (fields_of l.fn.fields) ≡ option_map (with_changes (set_said l.all.set)) (changes_of (fields_of l.left))
