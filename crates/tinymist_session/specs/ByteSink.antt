@@ -11,6 +11,7 @@ abbrev pub Writes : Option (List ℕ) → Option (List ℕ) → WriteStep → Li
 Writes old new (wrote.Took n) piece = (n ≤ length piece) × (new ≡ append_known old (take n piece))
 Writes old new wrote.Failed piece = new ≡ old
 
+-- the write failed
 abbrev pub IsFailedWrite : WriteStep → Type 0
 IsFailedWrite (wrote.Took n) = ⊥
 IsFailedWrite wrote.Failed = ⊤
@@ -25,10 +26,12 @@ abbrev pub flushed_by_write : Bool → WriteStep → Bool
 flushed_by_write old (wrote.Took n) = if n == 0 then old else false
 flushed_by_write old wrote.Failed = old
 
+-- whether all has gone on after a flush
 abbrev pub flushed_by : Bool → FlushStep → Bool
 flushed_by old flush.Done = true
 flushed_by old flush.Failed = old
 
+-- the flush failed
 abbrev pub IsFailedFlush : FlushStep → Type 0
 IsFailedFlush flush.Done = ⊥
 IsFailedFlush flush.Failed = ⊤

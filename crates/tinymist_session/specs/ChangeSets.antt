@@ -3,5 +3,6 @@ use Rattle.tinymist_vfs.specs.declared.item.FileChangeSet.{FileChangeSet}
 use Rattle.tinymist_vfs.specs.ChangeSet.{removed_paths, inserted_files}
 use Rattle.tinymist_session.specs.Grammar.{Changes}
 
+-- a change set as the definition has it
 abbrev pub set_said : FileChangeSet → Changes
 set_said set = record { removes = removed_paths set; inserts = inserted_files set }

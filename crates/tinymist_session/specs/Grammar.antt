@@ -17,6 +17,7 @@ abbrev pub decimal_from : ℕ → List ℕ → Option ℕ
 decimal_from n [] = Some n
 decimal_from n (d ∷ ds) = if nat_le 48 d && nat_le d 57 then decimal_from (10 * n + (d - 48)) ds else None
 
+-- a number below 2 ^ 64
 abbrev pub fits_64 : ℕ → Option ℕ
 fits_64 n = if nat_lt n (2 ^ 64) then Some n else None
 
@@ -76,6 +77,7 @@ pub record Changes : Type 0 where
   pub removes : List (List ℕ)
   pub inserts : List (List ℕ × Answer)
 
+-- no change
 abbrev pub no_changes : Changes
 no_changes = record { removes = []; inserts = [] }
 
@@ -88,9 +90,11 @@ abbrev pub joined : Option Changes → Option Changes → Option Changes
 joined (Some a) (Some b) = Some (with_changes a b)
 joined a b = None
 
+-- a path that is no longer told
 abbrev pub removing : List ℕ → Changes
 removing path = record { removes = path ∷ []; inserts = [] }
 
+-- a path that is told to have this
 abbrev pub telling : List ℕ → Answer → Changes
 telling path answer = record { removes = []; inserts = (path, answer) ∷ [] }
 
@@ -98,6 +102,7 @@ telling path answer = record { removes = []; inserts = (path, answer) ∷ [] }
 abbrev pub removal_of : List ℕ → Option Changes
 removal_of word = option_map removing (option_and_then path_of (after_sign 45 word))
 
+-- a told file, where there is a path and a content
 abbrev pub told_of : Option (List ℕ) → Option ContentWord → Option Changes
 told_of (Some path) (Some content) = Some (telling path (answer_at path content))
 told_of path content = None
@@ -114,26 +119,32 @@ changes_of (word ∷ next ∷ fields) = option_or (joined (removal_of word) (cha
 
 -- ---- a case for each sentence: what stands after its first word
 
+-- the command of map, where all its words are good
 abbrev pub map_of : Option ℕ → Option (List ℕ) → Option ContentWord → Option Command
 map_of (Some target) (Some path) (Some content) = Some (Edit target (MapPath path (answer_at path content)))
 map_of target path content = None
 
+-- the command of unmap, where both its words are good
 abbrev pub unmap_of : Option ℕ → Option (List ℕ) → Option Command
 unmap_of (Some target) (Some path) = Some (Edit target (UnmapPath path))
 unmap_of target path = None
 
+-- the command of map-id, where all its words are good
 abbrev pub map_id_of : Option ℕ → Option IdWord → Option ContentWord → Option Command
 map_id_of (Some target) (Some id) (Some content) = Some (MapId target id content)
 map_id_of target id content = None
 
+-- both, where there are both
 abbrev pub both_of : {A B : Type 0} → Option A → Option B → Option (A × B)
 both_of (Some a) (Some b) = Some (a, b)
 both_of a b = None
 
+-- the command of line, where all its words are good
 abbrev pub line_sentence_of : Option ℕ → Option IdWord → Option ℕ → Option Command
 line_sentence_of (Some view) (Some id) (Some offset) = Some (Line view id offset)
 line_sentence_of view id offset = None
 
+-- the command of clean, where all its words are good
 abbrev pub clean_of : Option ℕ → Option ℕ → Option (List IdWord) → Option Command
 clean_of (Some target) (Some revision) (Some ids) = Some (Clean target revision ids)
 clean_of target revision ids = None
@@ -143,10 +154,12 @@ abbrev pub one_of : List (List ℕ) → Option (List ℕ)
 one_of (a ∷ []) = Some a
 one_of fields = None
 
+-- both fields, where there are two
 abbrev pub two_of : List (List ℕ) → Option (List ℕ × List ℕ)
 two_of (a ∷ b ∷ []) = Some (a, b)
 two_of fields = None
 
+-- all three fields, where there are three
 abbrev pub three_of : List (List ℕ) → Option (List ℕ × List ℕ × List ℕ)
 three_of (a ∷ b ∷ c ∷ []) = Some (a, b, c)
 three_of fields = None

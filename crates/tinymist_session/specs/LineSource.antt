@@ -11,6 +11,7 @@ Reads old new (Got n) buffer after = (n ≤ length after) × (old ≡ prepend_kn
 Reads old new End buffer after = (old ≡ new) × IsAtEnd new
 Reads old new Failed buffer after = old ≡ new
 
+-- the read failed
 abbrev pub IsFailedRead : ReadStep → Type 0
 IsFailedRead Failed = ⊤
 IsFailedRead (Got n) = ⊥

@@ -86,10 +86,12 @@ edited s target item space =
     let new = after_commit space (item ∷ []) in
     record { state = with_space s target new; reply = AtRevision new.now.revision }
 
+-- an edit of a space that may be missing
 abbrev pub edit_in : State → ℕ → Item → Option Space → Stepped
 edit_in s target item None = replied s BadView
 edit_in s target item (Some space) = edited s target item space
 
+-- an edit of a target
 abbrev pub edit_step : State → ℕ → Item → Stepped
 edit_step s target item = edit_in s target item (space_at s target)
 
@@ -129,6 +131,7 @@ asking s k view id = record s { views = slice_set s.views (k - 1) (with_asked id
 abbrev pub read_in : State → Told → ℕ → Space → Id → Stepped
 read_in s disk k view id = record { state = asking s k view id; reply = reply_to (look view.now disk id) }
 
+-- a read of what a word names in view k
 abbrev pub read_step : State → Told → ℕ → IdWord → Stepped
 read_step s disk k word = on_named s (view_at s.views k) (id_for s.tagged word) (read_in s disk k)
 
@@ -158,6 +161,7 @@ listed reply (Some space) = reply space
 abbrev pub path_list : Space → Reply
 path_list space = PathList (map.keys space.now.layers.by_path)
 
+-- the ids of an overlay, ascending
 abbrev pub id_list : Space → Reply
 id_list space = IdList (map.keys space.now.layers.by_id)
 
@@ -169,9 +173,11 @@ has_revision space r = nat_le 2 r && nat_le r space.now.revision
 abbrev pub clean_reply : Space → ℕ → List Id → Reply
 clean_reply space r ids = if has_revision space r then IsClean (are_clean (space.now ∷ space.past) r ids) else BadRevision
 
+-- where the id that a word names stands in a target
 abbrev pub path_step : State → ℕ → IdWord → Stepped
 path_step s target word = on_named s (space_at s target) (id_for s.tagged word) (λ space id. replied s (place_reply id (place_of space.now.resolver id)))
 
+-- whether the ids that words name are clean in a target
 abbrev pub clean_step : State → ℕ → ℕ → List IdWord → Stepped
 clean_step s target r words = on_named s (space_at s target) (ids_for s.tagged words) (λ space ids. replied s (clean_reply space r ids))
 

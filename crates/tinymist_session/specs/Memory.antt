@@ -17,6 +17,7 @@ counted count = min (count + 1) (2 ^ 64 - 1)
 abbrev pub is_listed : List ℕ → ℕ → Bool
 is_listed fails calls = list_any (λ n. n == counted calls) fails
 
+-- each of these is at least 1
 abbrev pub are_positive : List ℕ → Bool
 are_positive numbers = list_all (λ n. nat_lt 0 n) numbers
 
@@ -33,6 +34,7 @@ pub record SourceHolds : Type 0 where
   pub calls : ℕ
   pub faults : ℕ
 
+-- what a read of so many bytes gives
 abbrev pub read_by : List ℕ → List ℕ → ℕ → ReadStep
 read_by [] sizes room = End
 read_by (b ∷ bs) sizes room = Got (at_most_next sizes (min room (length (b ∷ bs))))

@@ -8,6 +8,7 @@ use Rattle.ty_model.specs.Places as places
 use Rattle.ty_syntax.specs.Lines.{Place, place}
 use Rattle.tinymist_vfs.specs.Workspace.{spec_text}
 
+-- what a line is answered
 pub data Reply : Type 0 where
   AtRevision : (revision : ℕ) → Reply
   ViewNumber : (number : ℕ) → Reply
@@ -73,6 +74,7 @@ word_in vpath tag (Package spec) = spec_text spec ++ vpath
 abbrev pub id_word : Id → List ℕ
 id_word id = word_in id.vpath id.tag id.root
 
+-- the word of a clean answer
 abbrev pub clean_word : Bool → List ℕ
 clean_word true = codes "clean"
 clean_word false = codes "dirty"

@@ -29,19 +29,23 @@ use Rattle.tinymist_session.specs.declared.command.Command.TheVariants as comman
 use Rattle.tinymist_session.specs.declared.reply.Reply.{Reply}
 use Rattle.tinymist_session.specs.declared.reply.Reply.TheVariants as reply
 
+-- a content as the definition has it
 abbrev pub content_said : ContentWord → plain.ContentWord
 content_said (content.Bytes bytes) = plain.BytesWord bytes.items
 content_said content.Missing = plain.MissingWord
 content_said (content.Refused error) = plain.RefusedWord (refusal_of error)
 
+-- a change as the definition has it
 abbrev pub change_said : Change → Changes
 change_said (Remove path) = removing path
 change_said (Tell path answer) = telling path answer
 
+-- the word of an id as the definition has it
 abbrev pub id_said : IdWord → plain.IdWord
 id_said (word.Path path) = plain.PathWord path
 id_said (word.Tag tag) = plain.TagWord tag
 
+-- an edit as an item of a batch
 abbrev pub edit_said : Edit → batch.Item
 edit_said (edit.MapPath path answer) = batch.MapPath path answer
 edit_said (edit.UnmapPath path) = batch.UnmapPath path
@@ -50,6 +54,7 @@ edit_said (edit.MapId id answer) = batch.MapId id answer
 edit_said (edit.UnmapId id) = batch.UnmapId id
 edit_said (edit.Notify changes) = batch.ChangeSet (set_said changes.set).removes (set_said changes.set).inserts
 
+-- a command as the definition has it
 abbrev pub command_of : Command → plain.Command
 command_of (command.Edit target edit) = plain.Edit target (edit_said edit)
 command_of command.Snapshot = plain.Snapshot
@@ -64,6 +69,7 @@ command_of (command.MapId target id content) = plain.MapId target (id_said id) (
 command_of (command.UnmapId target id) = plain.UnmapId target (id_said id)
 command_of (command.Rootless vpath) = plain.Rootless vpath
 
+-- a reply as the definition has it
 abbrev pub reply_of : Reply → plain_reply.Reply
 reply_of (reply.AtRevision revision) = plain_reply.AtRevision revision
 reply_of (reply.ViewNumber number) = plain_reply.ViewNumber number
@@ -82,6 +88,7 @@ reply_of reply.BadId = plain_reply.BadId
 reply_of reply.BadRevision = plain_reply.BadRevision
 reply_of reply.BadOffset = plain_reply.BadOffset
 
+-- the options as the definition has them
 abbrev pub options_said : Options → words.Options
 options_said o = record { max_line = o.max_line; max_lines = o.max_lines }
 

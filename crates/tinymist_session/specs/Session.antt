@@ -26,6 +26,7 @@ ended (line ∷ lines) = line ++ 10 ∷ ended lines
 abbrev pub good_line : Limits → List ℕ → Option Command
 good_line limits line = if nat_le (length line) limits.max_line then command_of line else None
 
+-- a command before later ones; none where its line is not good
 abbrev pub before : Option Command → List Command → List Command
 before None later = []
 before (Some command) later = command ∷ later

@@ -17,6 +17,7 @@ known resolver = finmap.empty
 abbrev pub shown : Kept MockRootResolver → ℕ × Version
 shown k = (k.held.space, version_of known k)
 
+-- a space as its number and its last version
 abbrev pub space_shown : Space → ℕ × Version
 space_shown s = (s.number, s.now)
 
@@ -25,6 +26,7 @@ abbrev pub highest : List (ℕ × Version) → ℕ
 highest [] = 0
 highest (s ∷ ss) = max s.1.revision (highest ss)
 
+-- the greatest revision of all spaces that are kept
 abbrev pub top_revision : Kept MockRootResolver → List (Kept MockRootResolver) → ℕ
 top_revision live views = highest (map shown (live ∷ views))
 
@@ -52,8 +54,10 @@ pub record IsShown (live : Kept MockRootResolver) (views : List (Kept MockRootRe
   pub next_tag : tags.counters.next_id ≡ s.next_tag
   pub tagged : tags.ids.items ≡ s.tagged
 
+-- what is kept of view k, where 0 is none
 abbrev pub kept_at : List (Kept MockRootResolver) → ℕ → Option (Kept MockRootResolver)
 kept_at views k = if k == 0 then None else slice_get views (k - 1)
 
+-- what is kept of a target
 abbrev pub target_kept : Kept MockRootResolver → List (Kept MockRootResolver) → ℕ → Option (Kept MockRootResolver)
 target_kept live views target = if target == 0 then Some live else kept_at views target

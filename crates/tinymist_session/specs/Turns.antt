@@ -27,12 +27,14 @@ TurnReads command n (Err OutOfMemory) = ⊤
 TurnReads command n (Err ReadFault) = ⊥
 TurnReads command n (Err Full) = ⊥
 
+-- the step was taken, and its reply is what the sink took; at a fault a front of it
 abbrev pub TurnSays : Stepped → Option (List ℕ) → Option (List ℕ) → Kept MockRootResolver → List (Kept MockRootResolver) → TaggedIds → Result (Unit {0}) SessionFault → Type 0
 TurnSays stepped old new live views tags (Ok done) = IsShown live views tags stepped.state × (new ≡ append_known old (reply_line stepped.reply))
 TurnSays stepped old new live views tags (Err fault) = TakesFront old new (reply_line stepped.reply)
 
 -- ---- what is left of an input, where n good lines stood before it
 
+-- the limits as the definition has them
 abbrev pub limits_of : Limits → session.Limits
 limits_of l = record { max_line = l.max_line; max_lines = l.max_lines }
 
@@ -44,9 +46,11 @@ commands_after limits n lines = good_commands limits (take (limits.max_lines - n
 abbrev pub end_after : session.Limits → ℕ → List (List ℕ) → End
 end_after limits n lines = end_with (n + length lines) (n + length (take (limits.max_lines - n) lines)) (n + length (commands_after limits n lines))
 
+-- the end of what is left, after so many lines
 abbrev pub ends : session.Limits → ℕ → List ℕ → End
 ends limits n rest = end_after limits n (lines_of rest)
 
+-- the replies to what is left, after so many lines
 abbrev pub replies : session.Limits → Told → State → ℕ → List ℕ → List ℕ
 replies limits told s n rest = replies_from told s (commands_after limits n (lines_of rest))
 
@@ -61,6 +65,7 @@ pub record GoodLine (limits : session.Limits) (rest next : List ℕ) : Type 0 wh
   pub short : length line ≤ limits.max_line
   pub good : good_line limits line ≡ Some command
 
+-- the end of an input by one line more: a good line leaves it as it was
 abbrev pub PassEnds : session.Limits → ℕ → List ℕ → Option (List ℕ) → Result Bool SessionFault → Type 0
 PassEnds limits n rest left (Ok true) = (next : List ℕ) × (left ≡ Some next) × (ends limits n rest ≡ ends limits (n + 1) next) × GoodLine limits rest next
 PassEnds limits n rest left (Ok false) = ends limits n rest ≡ Whole
@@ -79,6 +84,7 @@ pub record Passed (limits : session.Limits) (told : Told) (s : State) (n : ℕ) 
   pub stepped : state ≡ (step s told first.command).state
   pub said : piece ≡ reply_line (step s told first.command).reply
 
+-- the replies by one line more: the reply to it, and those still to come
 abbrev pub PassSays : session.Limits → Told → State → ℕ → List ℕ → Option (List ℕ) → Option (List ℕ) → Option (List ℕ) → Kept MockRootResolver → List (Kept MockRootResolver) → TaggedIds → Result Bool SessionFault → Type 0
 PassSays limits told s n rest left old new live views tags (Ok true) = Passed limits told s n rest left old new live views tags
 PassSays limits told s n rest left old new live views tags (Ok false) = new ≡ append_known old (replies limits told s n rest)
@@ -107,6 +113,7 @@ pub record Ahead (limits : session.Limits) (input : List ℕ) (n : ℕ) (left : 
   pub left_is : left ≡ Some rest
   pub same_end : ends limits 0 input ≡ ends limits n rest
 
+-- n lines were answered: what was taken, and the replies still to come, are the replies to the input
 pub record Pending (limits : session.Limits) (told : Told) (input : List ℕ) (n : ℕ) (left : Option (List ℕ)) (disk : Option Told) (old new : Option (List ℕ)) (live : Kept MockRootResolver) (views : List (Kept MockRootResolver)) (tags : TaggedIds) : Type 0 where
   pub rest : List ℕ
   pub state : State

@@ -10,6 +10,7 @@ pub record Options : Type 0 where
   pub max_line : Option ℕ
   pub max_lines : Option ℕ
 
+-- a number below 2 ^ 32
 abbrev pub fits_32 : ℕ → Option ℕ
 fits_32 n = if nat_lt n (2 ^ 32) then Some n else None
 
