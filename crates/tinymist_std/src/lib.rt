@@ -19,6 +19,7 @@ mod hash;
 mod hashed_trait;
 mod logging;
 mod macros;
+mod parts;
 mod path_ancestors;
 pub mod paths;
 mod query;
