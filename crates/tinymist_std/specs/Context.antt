@@ -47,6 +47,10 @@ pub record IsMet (place : List ℕ) (kind : Kind → Type 0) (given : Option Arg
   pub kind_is : kind f.kind
   pub arguments_are : HasArguments given f
 
+-- an error of a call that refuses: memory ran out, or nothing is said beside these arguments and the reason holds
+abbrev pub IsRefusal : List ℕ → Option Arguments → Type 0 → Failure → Type 0
+IsRefusal call given why = IsMet call (λ k. UnlessMemory k ((k ≡ plain untold) × why)) (λ a. a ≡ given)
+
 -- named arguments as code has them
 abbrev pub ArgumentList : Type 0
 ArgumentList = Vec (Bor (List ℕ) × String Global) Global

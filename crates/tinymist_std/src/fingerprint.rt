@@ -1,5 +1,5 @@
 //! Fingerprints of 128 bits, and their texts in base64.
-ghost use Rattle.std.specs.Prelude.{◌≡◌, ℕ, ◌^◌, ◌%◌, ◌<◌, ◌++◌, None, Some, Ok, IfOk, IfErr, IfSome, OnOk, codes, take, string_bytes};
+ghost use Rattle.std.specs.Prelude.{◌≡◌, ℕ, ◌^◌, ◌%◌, ◌<◌, ◌++◌, [], None, Some, Ok, IfOk, IfErr, IfSome, OnOk, codes, take, string_bytes};
 ghost use Rattle.std.specs.Int.{w64, from_le_bytes};
 ghost use Rattle.base64.specs.GeneralPurpose.{IsBytes};
 ghost use Rattle.tinymist_std.specs.Error.{plain, untold};
@@ -65,7 +65,7 @@ impl Fingerprint {
     /// for the high half what its bytes need, less the zeros at their end.
     pub fn as_svg_id(self, alloc: Global, prefix: &str) -> Result<String, OutOfMemory>
         ensures text { IfOk result (λ t. string_bytes t ≡ prefix.now ++ svg_id self) }
-        ensures readable { OnOk result (IsTextOf self (svg_id self)) }
+        ensures readable { prefix.now ≡ [] → IfOk result (λ t. IsTextOf self (string_bytes t)) }
     {
         let mut text = String::from_str(alloc, prefix)?;
         append_halves(self.lo, self.hi, &mut text)?;
