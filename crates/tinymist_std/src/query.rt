@@ -145,7 +145,7 @@ impl<T: Drop, E: Drop, C> QueryRef<T, E, C> {
         note.seen.compare(other.seen);
     }
 
-    // The kept result, or else that of `f`, which is kept.
+    /// The kept result, or else that of `f`, which is kept.
     fn settle<'a, F: FnOnce() -> Result<T, E> + Drop>(
         &'a self,
         f: F,
@@ -172,7 +172,7 @@ impl<T: Drop, E: Drop, C> QueryRef<T, E, C> {
     }
 }
 
-// A kept result as an answer.
+/// A kept result as an answer.
 fn answer<T, E>(kept: &Result<T, E>) -> Result<&T, QueryFault<'_, E>>
     ensures { Tells (Some kept.now) result }
 {
