@@ -1,5 +1,6 @@
 //! Maps from fingerprints behind a row of locks.
 ghost use Rattle.std.specs.Prelude.{◌≡◌, ◌%◌, ◌^◌, ◌<◌, ◌++◌, Some, length, min, slice_get, IfOk, OnOk, IsPermutation};
+ghost use Rattle.std.specs.Borrow.{Array, Lends, sem};
 ghost use Rattle.std.specs.Int.{IsNextPowerOfTwo};
 ghost use Rattle.std.specs.List.Sorted.{IsSortedByKey};
 
@@ -7,6 +8,7 @@ use crate::fingerprint::Fingerprint;
 use crate::parts::part_of;
 use std::alloc::{AllocError, Global};
 use std::collections::HashMap;
+use std::hash::{BuildHasher, BuildHasherDefault, FoldHasher};
 use std::sync::{RwLock, Wait};
 use ty_path::OutOfMemory;
 
@@ -21,7 +23,8 @@ pub struct FingerprintMap<V> {
 }
 
 impl<V: Drop> FingerprintMap<V> {
-    ghost use Rattle.tinymist_std.specs.FingerprintMap.{shards_of};
+    ghost use Rattle.tinymist_std.specs.FingerprintMap.{shard_row, shards_of, with_shards};
+    ghost use Rattle.tinymist_std.specs.contracts.fingerprint_map.FingerprintMap.{the_row};
 
     /// An empty map of so many parts, or of the next power of two, but of 512 at most.
     pub fn new(alloc: Global, shards: u32) -> Result<FingerprintMap<V>, OutOfMemory>
@@ -45,9 +48,12 @@ impl<V: Drop> FingerprintMap<V> {
         part_of_fingerprint(self.shards.as_slice(), fg)
     }
 
-    /// The parts.
+    /// The parts, to be written. The map then holds what was written.
     pub fn as_mut_slice(&mut self) -> &mut [FingerprintMapShard<V>]
-        ensures { result.now ≡ shards_of self.old }
+        ensures* writes_back { sem 𝓛 (Lends (the_row V.row)
+            (Array (shard_row V.row ⟦<BuildHasherDefault<FoldHasher> as BuildHasher>⟧) 0)
+            self.entry result (with_shards self.old)) }
+        ensures value { result.now ≡ shards_of self.old }
     {
         self.shards.as_mut_slice()
     }

@@ -1,4 +1,4 @@
-//! Errors with their printed texts, and small tools that every crate above uses.
+//! Errors with their printed texts, and small tools: fingerprints, queries, locked maps, files and their locks.
 #![tactic(auto)]
 
 mod context;
