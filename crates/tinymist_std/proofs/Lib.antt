@@ -3,3 +3,4 @@ mod PlainKinds
 mod Zeros
 mod HalfTexts
 mod FingerprintTexts
+mod TemporaryNames

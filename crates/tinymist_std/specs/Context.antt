@@ -14,6 +14,7 @@ is_want [] (report d) = false
 is_want [] no_memory = true
 is_want (s ∷ within) cause = false
 
+-- the kind says that memory ran out
 abbrev pub lacks_memory : Kind → Bool
 lacks_memory k = is_want k.within k.cause
 
@@ -46,6 +47,10 @@ pub record IsMet (place : List ℕ) (kind : Kind → Type 0) (given : Option Arg
   pub place_is : f.place ≡ place
   pub kind_is : kind f.kind
   pub arguments_are : HasArguments given f
+
+-- an error of a call that refuses: memory ran out, or nothing is said beside these arguments and the reason holds
+abbrev pub IsRefusal : List ℕ → Option Arguments → Type 0 → Failure → Type 0
+IsRefusal call given why = IsMet call (λ k. UnlessMemory k ((k ≡ plain untold) × why)) (λ a. a ≡ given)
 
 -- named arguments as code has them
 abbrev pub ArgumentList : Type 0

@@ -5,6 +5,7 @@ use Rattle.tinymist_std.specs.Diagnostic.{report_of}
 use Rattle.tinymist_std.specs.declared.error.ErrKind.{ErrKind}
 use Rattle.tinymist_std.specs.declared.error.ErrKind.TheVariants.{None, Msg, Diag, Inner, OutOfMemory}
 
+-- a kind as plain data
 abbrev pub kind_of : ErrKind → Kind
 kind_of None = plain untold
 kind_of (Msg text) = plain (message (string_bytes text))

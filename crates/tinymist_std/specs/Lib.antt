@@ -13,6 +13,7 @@ pub mod CowBytes
 pub mod Date
 pub mod FingerprintMap
 pub mod FxDashMap
+pub mod PartNumber
 pub mod Paths
 pub mod PathAncestors
 pub mod FileLock

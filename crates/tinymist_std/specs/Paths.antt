@@ -1,14 +1,16 @@
 -- Failures of calls on files, and paths as one text.
-use Rattle.std.specs.Prelude.{◌≡◌, ℕ, ◌==◌, Bool, IsTrue, List, [], ◌∷◌, Option, Some, IsSomeAnd, codes, string_bytes}
+use Rattle.std.specs.Prelude.{◌≡◌, ℕ, ◌==◌, Bool, IsTrue, List, [], ◌∷◌, Option, IsSomeAnd, codes, string_bytes}
 use Rattle.std.specs.declared.string.String.{String}
 use Rattle.std.specs.declared.alloc.Global.{Global}
 use Rattle.std.specs.List.{join_by, list_any}
+use Rattle.ty_model.specs.Paths.{is_name, join}
 use Rattle.tinymist_std.specs.Error.{Arguments, Failure, plain, untold}
 use Rattle.tinymist_std.specs.Context.{HasArguments, UnlessMemory}
 
--- the first argument is the path
+-- the arguments are the path and then the system's reason
 abbrev pub NamesPath : List ℕ → Option Arguments → Type 0
-NamesPath path arguments = IsSomeAnd arguments (λ xs. (rest : Arguments) × (xs ≡ (codes "path", path) ∷ rest))
+NamesPath path arguments = IsSomeAnd arguments (λ xs. (reason : List ℕ)
+    × (xs ≡ (codes "path", path) ∷ (codes "error", reason) ∷ []))
 
 -- an error of a call at a path: it names both, or memory ran out
 pub record IsFileFault (call path : List ℕ) (e : Failure) : Type 0 where
@@ -32,8 +34,6 @@ joined_paths paths = join_by string_bytes (codes ":") paths
 abbrev pub separator_arguments : List ℕ → Arguments
 separator_arguments env = (codes "env", env) ∷ (codes "error", codes "path segment contains separator `:`") ∷ []
 
--- an error of `join_paths`: memory ran out, or a path has a `:`
-pub record IsJoinFault (env : List ℕ) (paths : List (String Global)) (e : Failure) : Type 0 where
-  pub place_is : e.place ≡ codes "join_paths"
-  pub cause : UnlessMemory e.kind ((e.kind ≡ plain untold) × IsTrue (any_has_colon paths))
-  pub arguments_are : HasArguments (λ args. args ≡ Some (separator_arguments env)) e
+-- a path is that of a name of one component in a folder
+abbrev pub StandsIn : List ℕ → List ℕ → Type 0
+StandsIn folder path = (name : List ℕ) × IsTrue (is_name name) × (path ≡ join folder name)

@@ -20,6 +20,7 @@ known_of (Some x) seen = Some (Ok x)
 known_of None seen = seen
 
 module _ {T E C : Type 0} where
+  -- the value that a query was made with, if it was
   abbrev pub known_value : QueryRef T E C → Option T
   known_value q = origin_value q.origin
 
@@ -32,10 +33,16 @@ module _ {T E C : Type 0} where
   known_result q n = known_of (known_value q) n.seen.known
 
 module _ {T E : Type 0} where
-  -- what is known is the value or the error of the answer; where memory ran out nothing is known
+  -- what is known is the value or the error of the answer, and the answer is no want of memory
+  abbrev pub Tells : Option (Result T E) → Result (Bor T) (QueryFault E) → Type 0
+  Tells known (Ok x) = known ≡ Some (Ok x.now)
+  Tells known (Err (Query e)) = known ≡ Some (Err e.now)
+  Tells known (Err OutOfMemory) = ⊥
+
+  -- the same, but where memory ran out nothing is known
   abbrev pub Answers : Option (Result T E) → Result (Bor T) (QueryFault E) → Type 0
-  Answers known (Ok x) = known ≡ Some (Ok x.now)
-  Answers known (Err (Query e)) = known ≡ Some (Err e.now)
+  Answers known (Ok x) = Tells known (Ok x)
+  Answers known (Err (Query e)) = Tells known (Err (Query e))
   Answers known (Err OutOfMemory) = known ≡ None
 
   -- what was known stays known

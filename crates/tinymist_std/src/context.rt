@@ -135,7 +135,7 @@ impl<T: Drop, E: Display + Drop> WithContextUntyped<T> for Result<T, E> {
     }
 }
 
-// An error with the arguments that the closure gives; where memory ran out, without.
+/// An error with the arguments that the closure gives; where memory ran out, without.
 fn met_with<A: Into<Option<Args>>, G: FnOnce() -> A + Drop>(
     loc: &'static str,
     kind: ErrKind,
@@ -150,7 +150,7 @@ fn met_with<A: Into<Option<Args>>, G: FnOnce() -> A + Drop>(
     Error::new(loc, kind, f().into())
 }
 
-// An error with arguments; where memory ran out, without.
+/// An error with arguments; where memory ran out, without.
 fn met(loc: &'static str, kind: ErrKind, args: Args) -> Error
     ensures { IsMet loc.now (λ k. k ≡ kind_of kind)
         (λ a. a ≡ Some (arguments_of args.entry.items)) result }
@@ -230,7 +230,7 @@ pub fn wrap_err_with_args(alloc: Global, loc: &'static str, e: Error, args: Args
     met(loc, wrapping_kind(alloc, e), args)
 }
 
-// The kind within which an error stands.
+/// The kind within which an error stands.
 fn wrapping_kind(alloc: Global, e: Error) -> ErrKind
     ensures { UnlessMemory (kind_of result) (kind_of result ≡ wrapping e) }
 {

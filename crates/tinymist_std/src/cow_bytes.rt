@@ -1,7 +1,9 @@
 //! Bytes as text, in padded standard base64.
-ghost use Rattle.std.specs.Prelude.{◌≡◌, ℕ, Ok, IfOk, IfErr, List, string_bytes};
+ghost use Rattle.std.specs.Prelude.{◌≡◌, None, IfOk, IfErr, codes, string_bytes};
 ghost use Rattle.base64.specs.Engines.{standard};
-ghost use Rattle.base64.specs.GeneralPurpose.{encode_of, IsBytes};
+ghost use Rattle.base64.specs.GeneralPurpose.{encode_of};
+ghost use Rattle.tinymist_std.specs.Context.{IsRefusal};
+ghost use Rattle.tinymist_std.specs.CowBytes.{IsTextOfBytes};
 
 use crate::error::{ErrKind, Error};
 use base64::DecodeAllocError;
@@ -14,8 +16,6 @@ use ty_path::OutOfMemory;
 pub struct AsCowBytes;
 
 impl AsCowBytes {
-    ghost use Rattle.tinymist_std.specs.CowBytes.{IsReadFault};
-
     /// The text of the bytes.
     pub fn to_text(alloc: Global, bytes: &[u8]) -> Result<String, OutOfMemory>
         ensures { IfOk result (λ text. string_bytes text ≡ encode_of standard bytes.now) }
@@ -26,7 +26,8 @@ impl AsCowBytes {
     /// The bytes of the text. The error is of kind `None` exactly where the text is of no bytes.
     pub fn from_text(alloc: Global, text: &str) -> Result<Vec<u8>, Error>
         ensures ok { IfOk result (λ bytes. text.now ≡ encode_of standard bytes.items) }
-        ensures err { IfErr result (IsReadFault text.now) }
+        ensures refused { IfErr result
+            (IsRefusal (codes "from_text") None (¬ (IsTextOfBytes text.now))) }
     {
         match STANDARD.decode(alloc, text.as_bytes()) {
             Ok(bytes) => Ok(bytes),

@@ -1,6 +1,8 @@
 //! Maps behind a row of locks.
-ghost use Rattle.std.specs.Prelude.{◌≡◌, ◌<◌, length, IfOk};
+ghost use Rattle.std.specs.Prelude.{◌≡◌, ◌<◌, Some, length, slice_get, IfOk};
+ghost use Rattle.tinymist_std.specs.PartNumber.{part_number};
 
+use crate::parts::part_of;
 use std::alloc::Global;
 use std::collections::HashMap;
 use std::hash::{BuildHasher, BuildHasherDefault, FoldHasher, Hash};
@@ -16,7 +18,7 @@ pub struct FxDashMap<K: Eq + Hash, V> {
 }
 
 impl<K: Eq + Hash + Drop, V: Drop> FxDashMap<K, V> {
-    ghost use Rattle.tinymist_std.specs.FxDashMap.{part_count, part_number};
+    ghost use Rattle.tinymist_std.specs.FxDashMap.{part_count};
 
     /// An empty map of so many parts.
     pub fn new(alloc: Global, shards: u32) -> Result<FxDashMap<K, V>, OutOfMemory>
@@ -31,8 +33,7 @@ impl<K: Eq + Hash + Drop, V: Drop> FxDashMap<K, V> {
         Ok(FxDashMap { shards })
     }
 
-    /// Puts the value under the key, and answers the one that stood there. Where memory runs out,
-    /// the map is as before.
+    /// Puts the value under the key, and answers the one that stood there.
     pub fn insert<R: Wait>(&self, rt: &R, k: K, v: V) -> Result<Option<V>, OutOfMemory> {
         let mut shard = self.shard(&k).write(rt);
         Ok(shard.insert(k, v)?)
@@ -49,16 +50,19 @@ impl<K: Eq + Hash + Drop, V: Drop> FxDashMap<K, V> {
         self.shard(k).read(rt).contains_key(k)
     }
 
-    // The part of the key.
+    /// The part of the key.
     fn shard(&self, k: &K) -> &RwLock<HashMap<K, V>> {
-        &self.shards[self.shard_number(k)]
+        part_of_key(self.shards.as_slice(), k)
     }
+}
 
-    // The number of the key's part, which the key and the count of parts decide.
-    fn shard_number(&self, k: &K) -> usize
-        ensures { result ≡ part_number (K.hash_input k.now) (part_count self.now) }
-    {
-        let hasher: BuildHasherDefault<FoldHasher> = BuildHasherDefault::default();
-        hasher.hash_one(k) as usize % self.shards.len()
-    }
+/// The part of the key, of a row of parts of any type. What the key feeds to the hash and the count
+/// of parts decide it.
+fn part_of_key<'a, K: Hash, T>(parts: &'a [T], k: &K) -> &'a T
+    requires { 0 < length parts.now }
+    ensures { slice_get parts.now (part_number (K.hash_input k.now) (length parts.now))
+        ≡ Some result.now }
+{
+    let hasher: BuildHasherDefault<FoldHasher> = BuildHasherDefault::default();
+    part_of(parts, hasher.hash_one(k) as usize)
 }

@@ -123,7 +123,7 @@ impl fmt::Display for Error {
 
 impl std::error::Error for Error {}
 
-// Writes what stands before a body.
+/// Writes what stands before a body.
 fn write_place<W: fmt::Write>(f: &mut fmt::Formatter<W>, place: &str) -> fmt::Result
     ensures { WritesOnOk W.write_str_gives f.old result (place_text place.now) f.new }
 {
@@ -134,7 +134,7 @@ fn write_place<W: fmt::Write>(f: &mut fmt::Formatter<W>, place: &str) -> fmt::Re
     f.write_str(": ")
 }
 
-// Writes a place with nothing beside it.
+/// Writes a place with nothing beside it.
 fn write_bare<W: fmt::Write>(f: &mut fmt::Formatter<W>, place: &str) -> fmt::Result
     ensures { WritesOnOk W.write_str_gives f.old result (bare_text place.now) f.new }
 {
@@ -145,7 +145,7 @@ fn write_bare<W: fmt::Write>(f: &mut fmt::Formatter<W>, place: &str) -> fmt::Res
     })
 }
 
-// Writes a place and a body.
+/// Writes a place and a body.
 fn write_body<W: fmt::Write>(f: &mut fmt::Formatter<W>, place: &str, body: &str) -> fmt::Result
     ensures { WritesOnOk W.write_str_gives f.old result (place_text place.now ++ body.now) f.new }
 {
@@ -153,7 +153,7 @@ fn write_body<W: fmt::Write>(f: &mut fmt::Formatter<W>, place: &str, body: &str)
     f.write_str(body)
 }
 
-// Writes a place and a message, or the place alone where the message is empty.
+/// Writes a place and a message, or the place alone where the message is empty.
 fn write_message<W: fmt::Write>(
     f: &mut fmt::Formatter<W>,
     place: &str,
@@ -168,7 +168,7 @@ fn write_message<W: fmt::Write>(
     }
 }
 
-// Writes a place and the cause that a kind without an error within it has.
+/// Writes a place and the cause that a kind without an error within it has.
 fn write_cause<W: fmt::Write>(f: &mut fmt::Formatter<W>, place: &str, kind: &ErrKind) -> fmt::Result
     requires { (kind_of kind.now).within ≡ [] }
     ensures { WritesOnOk W.write_str_gives f.old result
@@ -183,7 +183,7 @@ fn write_cause<W: fmt::Write>(f: &mut fmt::Formatter<W>, place: &str, kind: &Err
     }
 }
 
-// Writes the list of arguments, where there is one.
+/// Writes the list of arguments, where there is one.
 fn write_arguments<W: fmt::Write>(f: &mut fmt::Formatter<W>, args: &Option<Args>) -> fmt::Result
     ensures { DisplaysOnOk W.write_str_gives f.old result
         (arguments_text (option_map (λ v. arguments_of v.items) args.now)) f.new }

@@ -1,7 +1,6 @@
 //! The named arguments of an error, built one after another.
 ghost use Rattle.std.specs.Prelude.{◌≡◌, [], Some, IfOk, IfSome, is_some, if◌then◌else◌};
 ghost use Rattle.std.specs.Bool.{MatchBool};
-ghost use Rattle.std.specs.Option.{option_map};
 ghost use Rattle.tinymist_std.specs.Error.{arguments_of, no_memory, plain, untold};
 ghost use Rattle.tinymist_std.specs.ErrorArgs.{AddsArgument, IsMetWith};
 ghost use Rattle.tinymist_std.specs.Context.{IsMessageOf};
@@ -51,13 +50,6 @@ impl ErrorArgs {
         }
     }
 
-    /// The arguments; `None` where memory ran out.
-    pub fn into_args(self) -> Option<Args>
-        ensures { option_map (λ v. arguments_of v.items) result ≡ self }
-    {
-        self.args
-    }
-
     /// An error of that place with these arguments and nothing else to say.
     pub fn error(self, loc: &'static str) -> Error
         ensures place { result.place ≡ loc.now }
@@ -96,7 +88,7 @@ impl ErrorArgs {
     }
 }
 
-// The arguments with one more.
+/// The arguments with one more.
 fn with_argument<D: Display>(
     alloc: Global,
     mut args: Args,

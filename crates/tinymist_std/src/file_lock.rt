@@ -68,7 +68,7 @@ impl FileLock {
     }
 }
 
-// Removes all that the folder of the path holds beside it.
+/// Removes all that the folder of the path holds beside it.
 fn remove_beside<R: Files>(rt: &R, alloc: Global, path: &str) -> io::Result<()> {
     let place = Path::new(path);
     let Some(folder) = place.parent() else {
@@ -93,7 +93,7 @@ fn remove_beside<R: Files>(rt: &R, alloc: Global, path: &str) -> io::Result<()> 
     Ok(())
 }
 
-// Removes a file, or a folder with all that it holds.
+/// Removes a file, or a folder with all that it holds.
 fn remove<R: Files>(rt: &R, alloc: Global, path: &str, is_folder: bool) -> io::Result<()> {
     if is_folder {
         fs::remove_dir_all(&(rt, alloc), path)

@@ -156,7 +156,7 @@ impl Filesystem {
         self.try_acquire(rt, "try_open_ro_shared_create", path, Access::ReadOrCreate)
     }
 
-    // The file with its lock, once it is free.
+    /// The file with its lock, once it is free.
     fn acquire<R: Files<File = File>>(
         &self,
         rt: &R,
@@ -173,7 +173,7 @@ impl Filesystem {
         Ok(FileLock::new(file, path))
     }
 
-    // The file with its lock, unless that is held.
+    /// The file with its lock, unless that is held.
     fn try_acquire<R: Files<File = File>>(
         &self,
         rt: &R,
@@ -193,7 +193,7 @@ impl Filesystem {
         }
     }
 
-    // The path of a file of the folder.
+    /// The path of a file of the folder.
     fn place(&self, call: &'static str, path: &str) -> Result<String>
         ensures err { IfErr result (IsFileFault call.now (plain.join self.now path.now)) }
         ensures path { IfOk result (λ place. string_bytes place ≡ plain.join self.now path.now) }
@@ -209,14 +209,14 @@ impl Filesystem {
     }
 }
 
-// How a file is opened and locked.
+/// How a file is opened and locked.
 #[derive(Clone, Copy)]
 enum Access {
-    // To be read and written, made where it is missing, and locked for one holder.
+    /// To be read and written, made where it is missing, and locked for one holder.
     Write,
-    // To be read, and locked for readers.
+    /// To be read, and locked for readers.
     Read,
-    // The same, made where it is missing.
+    /// The same, made where it is missing.
     ReadOrCreate,
 }
 
@@ -255,7 +255,7 @@ fn open_and_lock<R: Files<File = File>>(rt: &R, path: &str, access: Access) -> i
     Ok(file)
 }
 
-// `None` where the system says that the lock is held.
+/// `None` where the system says that the lock is held.
 fn open_and_try_lock<R: Files<File = File>>(
     rt: &R,
     path: &str,
@@ -269,7 +269,7 @@ fn open_and_try_lock<R: Files<File = File>>(
     }
 }
 
-// The file. Where it may be made and its folder is missing, that is made first.
+/// The file. Where it may be made and its folder is missing, that is made first.
 fn open<R: Files<File = File>>(rt: &R, path: &str, access: Access) -> io::Result<File> {
     let options = access.options();
     match options.open(rt, path) {

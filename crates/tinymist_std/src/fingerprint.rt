@@ -1,5 +1,5 @@
 //! Fingerprints of 128 bits, and their texts in base64.
-ghost use Rattle.std.specs.Prelude.{◌≡◌, ℕ, ◌^◌, ◌%◌, ◌<◌, ◌++◌, None, Some, Ok, IfOk, IfErr, IfSome, OnOk, codes, take, string_bytes};
+ghost use Rattle.std.specs.Prelude.{◌≡◌, ℕ, ◌^◌, ◌%◌, ◌<◌, ◌++◌, [], None, Some, Ok, IfOk, IfErr, IfSome, OnOk, codes, take, string_bytes};
 ghost use Rattle.std.specs.Int.{w64, from_le_bytes};
 ghost use Rattle.base64.specs.GeneralPurpose.{IsBytes};
 ghost use Rattle.tinymist_std.specs.Error.{plain, untold};
@@ -65,7 +65,7 @@ impl Fingerprint {
     /// for the high half what its bytes need, less the zeros at their end.
     pub fn as_svg_id(self, alloc: Global, prefix: &str) -> Result<String, OutOfMemory>
         ensures text { IfOk result (λ t. string_bytes t ≡ prefix.now ++ svg_id self) }
-        ensures readable { OnOk result (IsTextOf self (svg_id self)) }
+        ensures readable { prefix.now ≡ [] → IfOk result (λ t. IsTextOf self (string_bytes t)) }
     {
         let mut text = String::from_str(alloc, prefix)?;
         append_halves(self.lo, self.hi, &mut text)?;
@@ -93,7 +93,7 @@ impl Fingerprint {
     }
 }
 
-// Appends the text of the halves.
+/// Appends the text of the halves.
 fn append_halves(lo: u64, hi: u64, text: &mut String) -> Result<(), AllocError>
     ensures text { let f : Halves = record { low = lo; high = hi } in
         OnOk result (string_bytes text.new ≡ string_bytes text.old ++ svg_id f) }
@@ -103,7 +103,7 @@ fn append_halves(lo: u64, hi: u64, text: &mut String) -> Result<(), AllocError>
     STANDARD_NO_PAD.encode_string(without_last_zeros(&hi.to_le_bytes()), text)
 }
 
-// The fingerprint that the text is of.
+/// The fingerprint that the text is of.
 fn halves(text: &[u8]) -> Option<Fingerprint>
     ensures reads { (f : Halves) → IsTextOf f text.now → result ≡ Some f }
     ensures only { IfSome result (λ f. IsTextOf f text.now) }
@@ -112,16 +112,12 @@ fn halves(text: &[u8]) -> Option<Fingerprint>
         return None;
     }
     let (low, high) = text.split_at(11);
-    let Some(lo) = half(low) else {
-        return None;
-    };
-    let Some(hi) = half(high) else {
-        return None;
-    };
+    let lo = half(low)?;
+    let hi = half(high)?;
     Some(Fingerprint { lo, hi })
 }
 
-// The half that the text is of.
+/// The half that the text is of.
 fn half(text: &[u8]) -> Option<u64>
     ensures reads { (n : ℕ) → IsTextOfHalf n text.now → result ≡ Some n }
     ensures only { IfSome result (λ n. IsTextOfHalf n text.now) }
@@ -129,6 +125,8 @@ fn half(text: &[u8]) -> Option<u64>
     if text.len() > 11 {
         return None;
     }
+    // The decoder asks for room for three bytes for each four characters, the last of which may be
+    // fewer: nine for eleven characters, though they stand for eight.
     let mut bytes = [0u8; 9];
     match STANDARD_NO_PAD.decode_slice_unchecked(text, &mut bytes) {
         Ok(_) => Some(first_eight(&bytes)),
@@ -136,7 +134,7 @@ fn half(text: &[u8]) -> Option<u64>
     }
 }
 
-// The number of the first eight bytes.
+/// The number of the first eight bytes.
 fn first_eight(bytes: &[u8; 9]) -> u64
     ensures value { result ≡ from_le_bytes w64 (take 8 bytes.now) }
     ensures bytes { IsBytes bytes.now }
@@ -146,7 +144,7 @@ fn first_eight(bytes: &[u8; 9]) -> u64
     u64::from_le_bytes(eight)
 }
 
-// The bytes without the zeros at their end.
+/// The bytes without the zeros at their end.
 #[tactic(auto, using(crate::proofs::Zeros::trim_more, crate::proofs::Zeros::trim_kept, crate::proofs::Zeros::trim_none))]
 fn without_last_zeros(bytes: &[u8]) -> &[u8]
     ensures { result.now ≡ without_last_zeros bytes.now }

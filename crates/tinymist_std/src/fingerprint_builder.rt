@@ -5,7 +5,7 @@ ghost use Rattle.tinymist_std.specs.Hash.{fingerprint_of, kind_and_item};
 ghost use Rattle.tinymist_std.specs.declared.fingerprint_builder.ResolveFault.TheVariants.{OutOfMemory as Want};
 
 use crate::fingerprint::Fingerprint;
-use crate::hash::{Base128, Feed, fed, kind_and_item};
+use crate::hash::{Base128, Feed, fed, fingerprint_of, kind_and_item};
 use std::alloc::{AllocError, AllocFailed, Global};
 use std::collections::HashMap;
 use std::marker::PhantomData;
@@ -74,8 +74,7 @@ impl<B: Base128> FingerprintBuilder<B> {
         ensures { IfOk result (λ f. f ≡ fingerprint_of (B.hash128_of (T.bytes_of item.now))) }
     {
         let data = fed(self.alloc, item)?;
-        let (lo, hi) = B::hash128(data.as_slice());
-        Ok(Fingerprint::from_pair(lo, hi))
+        Ok(fingerprint_of::<B>(data.as_slice()))
     }
 
     /// The fingerprint of the item's bytes after those of the kind, which are kept under it.
@@ -91,8 +90,7 @@ impl<B: Base128> FingerprintBuilder<B> {
         ensures err { OnErr result (KeepsAll ⟦<Fingerprint as PartialEq>⟧.eq self.old self.new) }
     {
         let data = kind_and_item(self.alloc, kind, item)?;
-        let (lo, hi) = B::hash128(data.as_slice());
-        let fingerprint = Fingerprint::from_pair(lo, hi);
+        let fingerprint = fingerprint_of::<B>(data.as_slice());
         if let Some(kept) = self.kept.get(&fingerprint) {
             if kept.as_slice() == data.as_slice() {
                 return Ok(fingerprint);

@@ -1,11 +1,14 @@
 //! Maps from fingerprints behind a row of locks.
-ghost use Rattle.std.specs.Prelude.{◌≡◌, ◌%◌, ◌^◌, ◌<◌, length, min, slice_index_or, IfOk};
+ghost use Rattle.std.specs.Prelude.{◌≡◌, ◌%◌, ◌^◌, ◌<◌, ◌++◌, Some, length, min, slice_get, IfOk, OnOk, IsPermutation};
+ghost use Rattle.std.specs.Borrow.{Array, Lends, sem};
 ghost use Rattle.std.specs.Int.{IsNextPowerOfTwo};
 ghost use Rattle.std.specs.List.Sorted.{IsSortedByKey};
 
 use crate::fingerprint::Fingerprint;
-use std::alloc::Global;
+use crate::parts::part_of;
+use std::alloc::{AllocError, Global};
 use std::collections::HashMap;
+use std::hash::{BuildHasher, BuildHasherDefault, FoldHasher};
 use std::sync::{RwLock, Wait};
 use ty_path::OutOfMemory;
 
@@ -15,12 +18,13 @@ pub type FingerprintMapShard<V> = RwLock<HashMap<Fingerprint, V>>;
 /// A map from fingerprints whose entries stand in a row of parts, each behind a lock.
 #[derive(Drop)]
 pub struct FingerprintMap<V> {
-    shards: Vec<RwLock<HashMap<Fingerprint, V>>>,
+    shards: Vec<FingerprintMapShard<V>>,
     ghost some: { 0 < length shards.items },
 }
 
 impl<V: Drop> FingerprintMap<V> {
-    ghost use Rattle.tinymist_std.specs.FingerprintMap.{shards_of};
+    ghost use Rattle.tinymist_std.specs.FingerprintMap.{shard_row, shards_of, with_shards};
+    ghost use Rattle.tinymist_std.specs.contracts.fingerprint_map.FingerprintMap.{the_row};
 
     /// An empty map of so many parts, or of the next power of two, but of 512 at most.
     pub fn new(alloc: Global, shards: u32) -> Result<FingerprintMap<V>, OutOfMemory>
@@ -37,24 +41,19 @@ impl<V: Drop> FingerprintMap<V> {
 
     /// The part in which the fingerprint stands: the one whose number is the low 32 bits modulo
     /// the count of parts.
-    pub fn shard(&self, fg: Fingerprint) -> &RwLock<HashMap<Fingerprint, V>>
-        ensures { result.now ≡ slice_index_or (shards_of self.now)
-            (fg.low % 2 ^ 32 % length (shards_of self.now)) result.now }
+    pub fn shard(&self, fg: Fingerprint) -> &FingerprintMapShard<V>
+        ensures { slice_get (shards_of self.now) (fg.low % 2 ^ 32 % length (shards_of self.now))
+            ≡ Some result.now }
     {
-        &self.shards[self.shard_number(fg)]
+        part_of_fingerprint(self.shards.as_slice(), fg)
     }
 
-    // The number of the part in which the fingerprint stands. Locks are seen as equal whatever
-    // they hold, so only this number tells which part it is.
-    fn shard_number(&self, fg: Fingerprint) -> usize
-        ensures { result ≡ fg.low % 2 ^ 32 % length (shards_of self.now) }
-    {
-        fg.lower32() as usize % self.shards.len()
-    }
-
-    /// The parts.
-    pub fn as_mut_slice(&mut self) -> &mut [RwLock<HashMap<Fingerprint, V>>]
-        ensures { result.now ≡ shards_of self.old }
+    /// The parts, to be written. The map then holds what was written.
+    pub fn as_mut_slice(&mut self) -> &mut [FingerprintMapShard<V>]
+        ensures* writes_back { sem 𝓛 (Lends (the_row V.row)
+            (Array (shard_row V.row ⟦<BuildHasherDefault<FoldHasher> as BuildHasher>⟧) 0)
+            self.entry result (with_shards self.old)) }
+        ensures value { result.now ≡ shards_of self.old }
     {
         self.shards.as_mut_slice()
     }
@@ -71,11 +70,35 @@ impl<V: Drop> FingerprintMap<V> {
     {
         let mut items = Vec::new(alloc);
         for shard in self.shards {
-            for item in shard.into_inner() {
-                items.push(item)?;
-            }
+            append_part(&mut items, shard.into_inner())?;
         }
-        items.sort_unstable_by_key(|item| item.0);
+        sort_items(&mut items);
         Ok(items)
     }
+}
+
+/// The part in which the fingerprint stands, of a row of parts of any type.
+fn part_of_fingerprint<T>(parts: &[T], fg: Fingerprint) -> &T
+    requires { 0 < length parts.now }
+    ensures { slice_get parts.now (fg.low % 2 ^ 32 % length parts.now) ≡ Some result.now }
+{
+    part_of(parts, fg.lower32() as usize)
+}
+
+/// Appends all entries of a part.
+fn append_part<V: Drop>(
+    items: &mut Vec<(Fingerprint, V)>,
+    part: HashMap<Fingerprint, V>,
+) -> Result<(), AllocError>
+    ensures { OnOk result (items.new.items ≡ items.old.items ++ part.entries) }
+{
+    items.extend(part)
+}
+
+/// Puts the items in the order of their fingerprints.
+fn sort_items<V>(items: &mut Vec<(Fingerprint, V)>)
+    ensures all { IsPermutation items.old.items items.new.items }
+    ensures sorted { IsSortedByKey (λ item. item.0) ⟦<Fingerprint as Ord>⟧.cmp items.new.items }
+{
+    items.sort_unstable_by_key(|item| item.0);
 }

@@ -133,8 +133,7 @@ impl<B: Base128> FingerprintHasher for FingerprintSipHasher<B> {
     ghost hash128_of = { B.hash128_of };
 
     fn finish_fingerprint(self) -> (Fingerprint, Vec<u8>) {
-        let (lo, hi) = B::hash128(self.data.as_slice());
-        (Fingerprint::from_pair(lo, hi), self.data)
+        (fingerprint_of::<B>(self.data.as_slice()), self.data)
     }
 }
 
@@ -148,8 +147,7 @@ pub fn item_hash128<B: Base128, T: Feed>(
         (fingerprint_of (B.hash128_of (kind_and_item kind (T.bytes_of item.now))))) }
 {
     let data = kind_and_item(alloc, kind, item)?;
-    let (lo, hi) = B::hash128(data.as_slice());
-    Ok(Fingerprint::from_pair(lo, hi).to_u128())
+    Ok(fingerprint_of::<B>(data.as_slice()).to_u128())
 }
 
 /// The number of the hash of 128 bits of a value.
@@ -157,8 +155,7 @@ pub fn hash128<B: Base128, T: Feed>(alloc: Global, value: &T) -> Result<u128, Ou
     ensures { IfOk result (λ h. h ≡ number_of (fingerprint_of (B.hash128_of (T.bytes_of value.now)))) }
 {
     let data = fed(alloc, value)?;
-    let (lo, hi) = B::hash128(data.as_slice());
-    Ok(Fingerprint::from_pair(lo, hi).to_u128())
+    Ok(fingerprint_of::<B>(data.as_slice()).to_u128())
 }
 
 /// The hash of 64 bits of a value.
@@ -175,6 +172,14 @@ pub fn hash32<B: Base128, T: Feed>(alloc: Global, value: &T) -> Result<u32, OutO
 {
     let data = fed(alloc, value)?;
     Ok(B::hash32(data.as_slice()))
+}
+
+/// The fingerprint of the bytes.
+pub(crate) fn fingerprint_of<B: Base128>(bytes: &[u8]) -> Fingerprint
+    ensures { result ≡ fingerprint_of (B.hash128_of bytes.now) }
+{
+    let (lo, hi) = B::hash128(bytes);
+    Fingerprint::from_pair(lo, hi)
 }
 
 /// The bytes that a value feeds.

@@ -1,4 +1,4 @@
-//! Errors with their printed texts, and small tools that every crate above uses.
+//! Errors with their printed texts, and small tools: fingerprints, queries, locked maps, files and their locks.
 #![tactic(auto)]
 
 mod context;
@@ -19,6 +19,7 @@ mod hash;
 mod hashed_trait;
 mod logging;
 mod macros;
+mod parts;
 mod path_ancestors;
 pub mod paths;
 mod query;

@@ -1,12 +1,12 @@
 //! Files and folders of the system by their paths, with errors that name the call and the path.
 //!
 //! What a file holds is not proved: these are thin edges over the library's files.
-ghost use Rattle.std.specs.Prelude.{◌≡◌, false, Some, Ok, IsOkAnd, IfOk, IfErr, MatchResult, codes, string_bytes};
+ghost use Rattle.std.specs.Prelude.{◌≡◌, false, None, Some, Ok, IsOkAnd, IfOk, IfErr, IsTrue, MatchResult, codes, string_bytes};
 ghost use Rattle.std.specs.Option.{option_copied};
 ghost use Rattle.std.specs.Str.{IsUtf8};
-ghost use Rattle.tinymist_std.specs.Context.{UnlessMemory};
+ghost use Rattle.tinymist_std.specs.Context.{IsRefusal};
 ghost use Rattle.tinymist_std.specs.PathAncestors.{path_next, path_stop};
-ghost use Rattle.tinymist_std.specs.Paths.{IsFileFault, IsJoinFault, any_has_colon, joined_paths};
+ghost use Rattle.tinymist_std.specs.Paths.{IsFileFault, any_has_colon, joined_paths, separator_arguments};
 
 use crate::error::{ErrKind, Error, Result};
 use crate::error_args::ErrorArgs;
@@ -28,7 +28,8 @@ pub use writing::{append, copy, create, write, write_atomic, write_if_changed};
 pub fn join_paths<R>(_rt: &R, alloc: Global, paths: &[String], env: &str) -> Result<String>
     ensures joined { IfOk result (λ text. string_bytes text ≡ joined_paths paths.now) }
     ensures apart { IfOk result (λ _. any_has_colon paths.now ≡ false) }
-    ensures refused { IfErr result (IsJoinFault env.now paths.now) }
+    ensures refused { IfErr result (IsRefusal (codes "join_paths")
+        (Some (separator_arguments env.now)) (IsTrue (any_has_colon paths.now))) }
 {
     if any_has_colon(paths) {
         return Err(
@@ -44,7 +45,7 @@ pub fn join_paths<R>(_rt: &R, alloc: Global, paths: &[String], env: &str) -> Res
     }
 }
 
-// Whether a path has a `:`.
+/// Whether a path has a `:`.
 fn any_has_colon(paths: &[String]) -> bool
     ensures { result ≡ any_has_colon paths.now }
 {
@@ -61,8 +62,8 @@ pub fn path2bytes<'p, R>(_rt: &R, path: &'p str) -> Result<&'p [u8]>
 /// The path of the bytes. The error comes exactly where they aren't UTF-8.
 pub fn bytes2path<R>(_rt: &R, alloc: Global, bytes: &[u8]) -> Result<String>
     ensures path { IfOk result (λ path. string_bytes path ≡ bytes.now) }
-    ensures place { IfErr result (λ e. e.place ≡ codes "bytes2path") }
-    ensures refused { IfErr result (λ e. UnlessMemory e.kind (¬ (IsUtf8 bytes.now))) }
+    ensures refused { IfErr result
+        (IsRefusal (codes "bytes2path") None (¬ (IsUtf8 bytes.now))) }
 {
     let Ok(text) = str::from_utf8(bytes) else {
         return Err(Error::new("bytes2path", ErrKind::None, None));

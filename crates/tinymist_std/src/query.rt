@@ -1,7 +1,7 @@
 //! Cells that are computed once, whose answers can be relied upon through a note.
 ghost use Rattle.std.specs.Prelude.{◌≡◌, None, Some, Ok, MatchOption};
 ghost use Rattle.std.specs.Option.{ForNone, option_map};
-ghost use Rattle.tinymist_std.specs.Query.{Answers};
+ghost use Rattle.tinymist_std.specs.Query.{Tells};
 
 use once_cell::race::OnceBox;
 use std::alloc::Global;
@@ -39,7 +39,7 @@ pub struct Note<T, E> {
 }
 
 impl<T: Drop, E: Drop, C> QueryRef<T, E, C> {
-    ghost use Rattle.tinymist_std.specs.Query.{Agree, Answers, IsNoteOf, Stays, known_result, known_value};
+    ghost use Rattle.tinymist_std.specs.Query.{Agree, Answers, IsNoteOf, Stays, Tells, known_result, known_value};
 
     /// A query whose value is known.
     pub fn with_value(alloc: Global, value: T) -> QueryRef<T, E, C>
@@ -116,15 +116,16 @@ impl<T: Drop, E: Drop, C> QueryRef<T, E, C> {
         }
     }
 
-    /// The value or the error, where there is one; `None` only where the note knows none.
+    /// The value or the error, where there is one, and the note then knows it; `None` only where the
+    /// note knows none. No memory is taken.
     pub fn get_uninitialized<'a>(
         &'a self,
         note: &mut Note<T, E>,
     ) -> Option<Result<&'a T, QueryFault<'a, E>>>
         requires note { IsNoteOf self.now note.old }
         ensures note { IsNoteOf self.now note.new }
-        ensures answer { MatchOption result (known_result self.now note.old ≡ None)
-            (Answers (known_result self.now note.new)) }
+        ensures answer { MatchOption result (known_result self.now note.new ≡ None)
+            (Tells (known_result self.now note.new)) }
         ensures stays { Stays (known_result self.now note.old) (known_result self.now note.new) }
     {
         if let Origin::Value(value) = &self.origin {
@@ -144,7 +145,7 @@ impl<T: Drop, E: Drop, C> QueryRef<T, E, C> {
         note.seen.compare(other.seen);
     }
 
-    // The kept result, or else that of `f`, which is kept.
+    /// The kept result, or else that of `f`, which is kept.
     fn settle<'a, F: FnOnce() -> Result<T, E> + Drop>(
         &'a self,
         f: F,
@@ -171,9 +172,9 @@ impl<T: Drop, E: Drop, C> QueryRef<T, E, C> {
     }
 }
 
-// A kept result as an answer.
+/// A kept result as an answer.
 fn answer<T, E>(kept: &Result<T, E>) -> Result<&T, QueryFault<'_, E>>
-    ensures { Answers (Some kept.now) result }
+    ensures { Tells (Some kept.now) result }
 {
     match kept {
         Ok(value) => Ok(value),

@@ -145,6 +145,31 @@ fn contexts_keep_the_kind(rt: HostRuntime) -> Result<(), Fail> {
     )
 }
 
+fn failed() -> Result<u8, &'static str> {
+    Err("m")
+}
+
+#[test]
+fn each_call_gives_its_error(rt: HostRuntime) -> Result<(), Fail> {
+    let alloc = rt.alloc();
+    let rows = [
+        (failed().context(alloc, "p").err(), "p: m"),
+        (
+            failed()
+                .with_context(alloc, "p", || args(alloc, "k", "v").ok())
+                .err(),
+            "p: m, with [(\"k\", \"v\")]",
+        ),
+        (failed().context_ut(alloc, "p").err(), "p: m"),
+        (None::<u8>.context(alloc, "p").err(), "p"),
+        (Some(map_string_err(alloc, "p", 7)), "p: 7"),
+    ];
+    for (error, want) in rows {
+        expect(&rt, alloc, &error.ok_or("no error")?, want)?;
+    }
+    Ok(())
+}
+
 fn reported(alloc: Global, name: &str) -> crate::Result<()> {
     bail!(alloc, "reported", "no file {name}")
 }
@@ -173,8 +198,7 @@ fn macros_make_errors_of_their_place(rt: HostRuntime) -> Result<(), Fail> {
         "p, with [(\"path\", \"a\")]",
     )?;
     expect(&rt, alloc, &error_once!(alloc, "p"), "p")?;
-    let failed: Result<u8, &str> = Err("m");
-    let error = failed
+    let error = failed()
         .map_err(error_once_map!(alloc, "p", k: 1))
         .err()
         .ok_or("no error")?;
@@ -218,19 +242,35 @@ fn failures_are_told_to_the_log(rt: HostRuntime) -> Result<(), Fail> {
     let alloc = rt.alloc();
     let sink = Memory::new(alloc);
     let logged = Logged::new(rt, Level::Error, &sink);
-    let failed: Result<u8, &str> = Err("e");
-    assert_eq!(rt; failed.log_error(&logged, "t"), None);
-    let failed: Result<u8, &str> = Err("e");
     let late = text(alloc, "late")?;
-    assert_eq!(rt; failed.log_error_with(&logged, move || late), None);
+    let none = text(alloc, "none")?;
+    assert_eq!(rt; failed().log_error(&logged, "t"), None);
+    assert_eq!(rt; failed().log_error_with(&logged, move || late), None);
     assert_eq!(rt; None::<u8>.log_error(&logged, "absent"), None);
-    let unused = text(alloc, "unused")?;
-    assert_eq!(rt; Some(7).log_error_with(&logged, move || unused), Some(7));
+    assert_eq!(rt; None::<u8>.log_error_with(&logged, move || none), None);
     let expected = [
-        "[ERROR tinymist_std::logging] t: e",
-        "[ERROR tinymist_std::logging] late: e",
+        "[ERROR tinymist_std::logging] t: m",
+        "[ERROR tinymist_std::logging] late: m",
         "[ERROR tinymist_std::logging] absent",
+        "[ERROR tinymist_std::logging] none",
     ];
     expect_lines(&rt, sink.into_lines(), &expected);
+    Ok(())
+}
+
+#[test]
+fn values_are_not_told_to_the_log(rt: HostRuntime) -> Result<(), Fail> {
+    let alloc = rt.alloc();
+    let sink = Memory::new(alloc);
+    let logged = Logged::new(rt, Level::Error, &sink);
+    let found: Result<u8, &str> = Ok(7);
+    assert_eq!(rt; found.log_error(&logged, "t"), Some(7));
+    let found: Result<u8, &str> = Ok(7);
+    let unused = text(alloc, "unused")?;
+    assert_eq!(rt; found.log_error_with(&logged, move || unused), Some(7));
+    assert_eq!(rt; Some(7).log_error(&logged, "t"), Some(7));
+    let unused = text(alloc, "unused")?;
+    assert_eq!(rt; Some(7).log_error_with(&logged, move || unused), Some(7));
+    expect_lines(&rt, sink.into_lines(), &[]);
     Ok(())
 }

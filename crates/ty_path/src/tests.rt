@@ -51,7 +51,7 @@ static FORMS: [(&str, &str, &str, &str); 43] = [
     ("a/ /b", "a/ /b", "a/ /b", "a/ /b"),
 ];
 
-/// A path, its components with a space between, its parent and its last name.
+/// A path, its components with a space between (names in quotes), its parent and its last name.
 static PARTS: [(&str, &str, Option<&str>, Option<&str>); 43] = [
     ("", "", None, None),
     (".", ".", Some(""), None),
@@ -65,42 +65,42 @@ static PARTS: [(&str, &str, Option<&str>, Option<&str>); 43] = [
     ("/../", "/ ..", Some("/"), None),
     ("../..", ".. ..", Some(".."), None),
     ("/../..", "/ .. ..", Some("/.."), None),
-    ("a", "a", Some(""), Some("a")),
-    ("a/", "a", Some(""), Some("a")),
-    ("/a", "/ a", Some("/"), Some("a")),
-    ("/a/", "/ a", Some("/"), Some("a")),
-    ("a/b", "a b", Some("a"), Some("b")),
-    ("a//b", "a b", Some("a"), Some("b")),
-    ("/a/b", "/ a b", Some("/a"), Some("b")),
-    ("/a//b/", "/ a b", Some("/a"), Some("b")),
-    ("./a", ". a", Some("."), Some("a")),
-    ("./a/../b", ". a .. b", Some("./a/.."), Some("b")),
-    ("a/.", "a", Some(""), Some("a")),
-    ("a/./b", "a b", Some("a"), Some("b")),
-    ("/a/./b", "/ a b", Some("/a"), Some("b")),
-    ("a/..", "a ..", Some("a"), None),
-    ("a/../b", "a .. b", Some("a/.."), Some("b")),
-    ("a/b/..", "a b ..", Some("a/b"), None),
-    ("a/../..", "a .. ..", Some("a/.."), None),
-    ("/a/../..", "/ a .. ..", Some("/a/.."), None),
-    ("/a/../../b", "/ a .. .. b", Some("/a/../.."), Some("b")),
-    ("../a", ".. a", Some(".."), Some("a")),
-    ("../../a/b", ".. .. a b", Some("../../a"), Some("b")),
-    ("../a/..", ".. a ..", Some("../a"), None),
+    ("a", "'a'", Some(""), Some("a")),
+    ("a/", "'a'", Some(""), Some("a")),
+    ("/a", "/ 'a'", Some("/"), Some("a")),
+    ("/a/", "/ 'a'", Some("/"), Some("a")),
+    ("a/b", "'a' 'b'", Some("a"), Some("b")),
+    ("a//b", "'a' 'b'", Some("a"), Some("b")),
+    ("/a/b", "/ 'a' 'b'", Some("/a"), Some("b")),
+    ("/a//b/", "/ 'a' 'b'", Some("/a"), Some("b")),
+    ("./a", ". 'a'", Some("."), Some("a")),
+    ("./a/../b", ". 'a' .. 'b'", Some("./a/.."), Some("b")),
+    ("a/.", "'a'", Some(""), Some("a")),
+    ("a/./b", "'a' 'b'", Some("a"), Some("b")),
+    ("/a/./b", "/ 'a' 'b'", Some("/a"), Some("b")),
+    ("a/..", "'a' ..", Some("a"), None),
+    ("a/../b", "'a' .. 'b'", Some("a/.."), Some("b")),
+    ("a/b/..", "'a' 'b' ..", Some("a/b"), None),
+    ("a/../..", "'a' .. ..", Some("a/.."), None),
+    ("/a/../..", "/ 'a' .. ..", Some("/a/.."), None),
+    ("/a/../../b", "/ 'a' .. .. 'b'", Some("/a/../.."), Some("b")),
+    ("../a", ".. 'a'", Some(".."), Some("a")),
+    ("../../a/b", ".. .. 'a' 'b'", Some("../../a"), Some("b")),
+    ("../a/..", ".. 'a' ..", Some("../a"), None),
     ("./..", ". ..", Some("."), None),
-    ("a/b/../../..", "a b .. .. ..", Some("a/b/../.."), None),
-    ("...", "...", Some(""), Some("...")),
-    ("a/...", "a ...", Some("a"), Some("...")),
-    ("a./b", "a. b", Some("a."), Some("b")),
-    ("é/..", "é ..", Some("é"), None),
-    ("/é/日本", "/ é 日本", Some("/é"), Some("日本")),
+    ("a/b/../../..", "'a' 'b' .. .. ..", Some("a/b/../.."), None),
+    ("...", "'...'", Some(""), Some("...")),
+    ("a/...", "'a' '...'", Some("a"), Some("...")),
+    ("a./b", "'a.' 'b'", Some("a."), Some("b")),
+    ("é/..", "'é' ..", Some("é"), None),
+    ("/é/日本", "/ 'é' '日本'", Some("/é"), Some("日本")),
     (
         "/a/b/../c/./d",
-        "/ a b .. c d",
+        "/ 'a' 'b' .. 'c' 'd'",
         Some("/a/b/../c"),
         Some("d"),
     ),
-    ("a/ /b", "a   b", Some("a/ "), Some("b")),
+    ("a/ /b", "'a' ' ' 'b'", Some("a/ "), Some("b")),
 ];
 
 /// A base, a path below it, and both joined.
@@ -241,19 +241,27 @@ static WAYS: [(&str, &str, Option<&str>); 45] = [
     ("/é/日本", "/é/b", Some("../日本")),
 ];
 
-/// The texts of the components with a space between.
+/// Appends a name in quotes.
+fn push_quoted(words: &mut String, name: &str) -> Result<(), OutOfMemory> {
+    words.push('\'')?;
+    words.push_str(name)?;
+    words.push('\'')?;
+    Ok(())
+}
+
+/// The components with a space between, each name in quotes.
 fn in_words(alloc: Global, parts: &[Component]) -> Result<String, OutOfMemory> {
     let mut words = String::new(alloc);
     for part in parts {
         if !words.is_empty() {
             words.push(' ')?;
         }
-        words.push_str(match part {
-            Component::RootDir => "/",
-            Component::CurDir => ".",
-            Component::ParentDir => "..",
-            Component::Normal(name) => name.as_str(),
-        })?;
+        match part {
+            Component::RootDir => words.push('/')?,
+            Component::CurDir => words.push('.')?,
+            Component::ParentDir => words.push_str("..")?,
+            Component::Normal(name) => push_quoted(&mut words, name.as_str())?,
+        }
     }
     Ok(words)
 }

@@ -1,14 +1,16 @@
 //! Folders that are made, and files and folders that are removed.
-ghost use Rattle.std.specs.Prelude.{ℕ, ◌⊎◌, List, Ok, Err, IfOk, IfErr, codes};
+ghost use Rattle.std.specs.Prelude.{ℕ, ◌⊎◌, List, Ok, Err, IfOk, IfErr, IsTrue, codes, string_bytes};
 ghost use Rattle.std.specs.Borrow.{Bor};
-ghost use Rattle.tinymist_std.specs.Paths.{IsFileFault};
+ghost use Rattle.tinymist_std.specs.Paths.{IsFileFault, StandsIn};
+ghost use Rattle.ty_model.specs.Paths.{is_name};
 
 use crate::error::{Error, Result};
 use crate::paths::named;
-use std::alloc::Global;
+use std::alloc::{AllocError, Global};
 use std::io::ErrorKind;
 use std::rt::Files;
 use std::{fs, io};
+use ty_path::join;
 
 /// Makes the folder, and each folder above it that is missing.
 pub fn create_dir_all<R: Files>(rt: &R, alloc: Global, path: &str) -> Result<()>
@@ -43,7 +45,8 @@ pub fn remove_file<R: Files>(rt: &R, alloc: Global, path: &str) -> Result<()>
     named(alloc, "remove_file", path, fs::remove_file(rt, path))
 }
 
-/// What `f` answers for a new folder below the path, which is removed afterwards.
+/// What `f` answers for a new folder in that of the path, which is removed afterwards. An empty path
+/// is the folder in which the program runs.
 pub fn temp_dir_in<R: Files, T, E: Into<Error>, G: FnOnce(&str) -> Result<T, E> + Drop>(
     rt: &R,
     alloc: Global,
@@ -51,11 +54,13 @@ pub fn temp_dir_in<R: Files, T, E: Into<Error>, G: FnOnce(&str) -> Result<T, E> 
     f: G,
 ) -> Result<T>
     requires { G.IsAlwaysCallable f }
-    ensures ok { IfOk result (λ value. (folder : Bor (List ℕ)) × G.post f folder (Ok value)) }
+    ensures ok { IfOk result (λ value. (folder : Bor (List ℕ))
+        × StandsIn path.now folder.now × G.post f folder (Ok value)) }
     ensures err { IfErr result (λ error. IsFileFault (codes "temp_dir_in") path.now error
-        ⊎ ((folder : Bor (List ℕ)) × ((e : E) × (G.post f folder (Err e) × E.converts e error)))) }
+        ⊎ ((folder : Bor (List ℕ)) × ((e : E)
+        × (StandsIn path.now folder.now × G.post f folder (Err e) × E.converts e error)))) }
 {
-    let folder = named(alloc, "temp_dir_in", path, create_below(rt, alloc, path))?;
+    let folder = named(alloc, "temp_dir_in", path, create_in(rt, alloc, path))?;
     let answer = f(folder.as_str());
     let _removed = fs::remove_dir_all(&(rt, alloc), folder.as_str());
     match answer {
@@ -64,10 +69,12 @@ pub fn temp_dir_in<R: Files, T, E: Into<Error>, G: FnOnce(&str) -> Result<T, E> 
     }
 }
 
-// A new folder below the path.
-fn create_below<R: Files>(rt: &R, alloc: Global, path: &str) -> io::Result<String> {
+/// A new folder in that of the path.
+fn create_in<R: Files>(rt: &R, alloc: Global, path: &str) -> io::Result<String>
+    ensures { IfOk result (λ folder. StandsIn path.now (string_bytes folder)) }
+{
     for number in 0..u32::MAX {
-        let folder = format!(in alloc; "{path}/.tmp{number}")?;
+        let folder = numbered_in(alloc, path, number)?;
         match fs::create_dir(rt, folder.as_str()) {
             Ok(()) => return Ok(folder),
             Err(cause) if cause.kind() == ErrorKind::AlreadyExists => {}
@@ -75,4 +82,23 @@ fn create_below<R: Files>(rt: &R, alloc: Global, path: &str) -> io::Result<Strin
         }
     }
     Err(io::Error::from(ErrorKind::AlreadyExists))
+}
+
+/// The path of the numbered folder in that of the path.
+fn numbered_in(alloc: Global, path: &str, number: u32) -> Result<String, AllocError>
+    ensures { IfOk result (λ folder. StandsIn path.now (string_bytes folder)) }
+{
+    let name = numbered(alloc, number)?;
+    match join(alloc, path, name.as_str()) {
+        Ok(folder) => Ok(folder),
+        Err(_) => Err(AllocError),
+    }
+}
+
+/// The name of the numbered folder.
+#[tactic(auto, using(crate::proofs::TemporaryNames::numbered_name))]
+fn numbered(alloc: Global, number: u32) -> Result<String, AllocError>
+    ensures { IfOk result (λ name. IsTrue (is_name (string_bytes name))) }
+{
+    format!(in alloc; ".tmp{number}")
 }

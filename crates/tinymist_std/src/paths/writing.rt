@@ -25,7 +25,7 @@ pub fn write<R: Files>(rt: &R, alloc: Global, path: &str, contents: &[u8]) -> Re
 }
 
 /// As [`write`], by a new file that takes the path's name once it is written: who reads meanwhile
-/// finds the old content or the new one.
+/// finds the old content or the new one. The permissions are those of a new file.
 pub fn write_atomic<R: Files>(rt: &R, alloc: Global, path: &str, contents: &[u8]) -> Result<()>
     ensures { IfErr result (IsFileFault (codes "write_atomic") path.now) }
 {
@@ -64,12 +64,14 @@ pub fn copy<R: Files>(rt: &R, alloc: Global, from: &str, to: &str) -> Result<u64
     named(alloc, "copy", from, fs::copy(rt, from, to))
 }
 
+/// Adds the bytes to the file's end.
 fn extend<R: Files>(rt: &R, path: &str, contents: &[u8]) -> io::Result<()> {
     let mut options = OpenOptions::new();
     options.append(true).create(true);
     options.open(rt, path)?.write_all(contents)
 }
 
+/// Makes the file hold the bytes, and touches it only where it held others.
 fn update<R: Files>(rt: &R, alloc: Global, path: &str, contents: &[u8]) -> io::Result<()> {
     let mut options = OpenOptions::new();
     options.read(true).write(true).create(true);
@@ -84,11 +86,11 @@ fn update<R: Files>(rt: &R, alloc: Global, path: &str, contents: &[u8]) -> io::R
     file.write_all(contents)
 }
 
-// Writes a new file beside the path, and gives it the path's name. Where that fails, the new file
-// is removed.
+/// Writes a new file beside the path, and gives it the path's name. Where that fails, the new file
+/// is removed.
 fn replace<R: Files>(rt: &R, alloc: Global, path: &str, contents: &[u8]) -> io::Result<()> {
     let (beside, file) = create_beside(rt, alloc, path)?;
-    match fill(rt, file, path, beside.as_str(), contents) {
+    match fill(rt, file, beside.as_str(), path, contents) {
         Ok(()) => Ok(()),
         Err(cause) => {
             let _removed = fs::remove_file(rt, beside.as_str());
@@ -97,23 +99,20 @@ fn replace<R: Files>(rt: &R, alloc: Global, path: &str, contents: &[u8]) -> io::
     }
 }
 
-// Fills the new file, with the permissions of the one that it replaces, and renames it.
+/// Fills the new file, and renames it.
 fn fill<R: Files>(
     rt: &R,
     mut file: R::File,
-    path: &str,
     beside: &str,
+    path: &str,
     contents: &[u8],
 ) -> io::Result<()> {
     file.write_all(contents)?;
-    if let Ok(old) = fs::metadata(rt, path) {
-        file.set_permissions(old.permissions())?;
-    }
     file.sync_all()?;
     fs::rename(rt, beside, path)
 }
 
-// A new file in the folder of the path, and its path.
+/// A new file in the folder of the path, and its path.
 fn create_beside<R: Files>(rt: &R, alloc: Global, path: &str) -> io::Result<(String, R::File)> {
     for number in 0..u32::MAX {
         let beside = format!(in alloc; "{path}.{number}.tmp")?;

@@ -10,7 +10,7 @@ use std::rt::Files;
 use std::test::Fail;
 use std::time::{Duration, SystemTime, UNIX_EPOCH};
 
-// The path of a name below a folder.
+/// The path of a name below a folder.
 fn below(alloc: Global, folder: &str, name: &str) -> crate::Result<String> {
     match ty_path::join(alloc, folder, name) {
         Ok(path) => Ok(path),
@@ -94,8 +94,8 @@ fn folders_are_made_and_removed(rt: HostRuntime) -> Result<(), Fail> {
     Ok(())
 }
 
-// Who opened the file before reads the old content, whole; a folder is not replaced by a file, and
-// no file is left beside it.
+/// Who opened the file before reads the old content, whole; a folder is not replaced by a file, and
+/// no file is left beside it.
 fn replace_whole<R: Files + Abort>(rt: &R, alloc: Global, folder: &str) -> crate::Result<()> {
     let file = below(alloc, folder, "a")?;
     let file = file.as_str();
@@ -127,7 +127,7 @@ fn atomic_writes_leave_old_or_new(rt: HostRuntime) -> Result<(), Fail> {
     Ok(())
 }
 
-// When a file was last written.
+/// When a file was last written.
 fn written_at<R: Files + Abort>(rt: &R, alloc: Global, path: &str) -> crate::Result<SystemTime> {
     metadata(rt, alloc, path)?
         .modified()
@@ -195,6 +195,10 @@ fn hold_locks<R: Files<File = File> + Abort>(
     assert!(rt; also.is_some());
     assert!(rt; files.try_open_rw_exclusive_create(rt, "sub/a")?.is_none());
     let other = files.open_ro_shared_create(rt, "sub/b", "waits")?;
+    let again = files.open_ro_shared_create(rt, "sub/b", "waits")?;
+    assert!(rt; files.try_open_rw_exclusive_create(rt, "sub/b")?.is_none());
+    drop(again);
+    assert!(rt; files.try_open_rw_exclusive_create(rt, "sub/b")?.is_none());
     write(
         rt,
         alloc,

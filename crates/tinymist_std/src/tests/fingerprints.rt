@@ -35,7 +35,7 @@ fn other_texts_are_refused(rt: HostRuntime) {
     assert!(rt; matches!(Fingerprint::try_from_str("AAAAAAAAAAA"), Ok(f) if f.to_u128() == 0));
 }
 
-// A hash under which all data meets.
+/// A hash under which all data meets.
 struct Zero;
 
 impl Base128 for Zero {

@@ -72,6 +72,37 @@ fn fingerprint_maps_hold_entries(rt: HostRuntime) -> Result<(), Fail> {
     Ok(())
 }
 
+/// Fingerprints, and of four parts the one in which each stands: only the low 32 bits count.
+static PLACES: [(u64, u64, usize); 7] = [
+    (0, 1, 0),
+    (5, 0, 1),
+    (2, 3, 2),
+    (7, 0, 3),
+    (0xffff_ffff, 1, 3),
+    (0x1_0000_0002, 0, 2),
+    (0x3_0000_0000, 7, 0),
+];
+
+#[test]
+fn fingerprints_stand_in_their_parts(rt: HostRuntime) -> Result<(), Fail> {
+    let mut map: FingerprintMap<u8> = FingerprintMap::new(rt.alloc(), 4)?;
+    for (low, high, _) in &PLACES {
+        let fingerprint = Fingerprint::from_pair(*low, *high);
+        let _absent = map.shard(fingerprint).write(&rt).insert(fingerprint, 1)?;
+    }
+    for (number, part) in map.as_mut_slice().iter_mut().enumerate() {
+        for (low, high, place) in &PLACES {
+            let fingerprint = Fingerprint::from_pair(*low, *high);
+            assert!(rt;
+                part.get_mut().contains_key(&fingerprint) == (*place == number),
+                "{low} in {number}"
+            );
+        }
+    }
+    assert_eq!(rt; map.into_items(rt.alloc())?.len(), PLACES.len());
+    Ok(())
+}
+
 #[test]
 fn dash_maps_hold_entries(rt: HostRuntime) -> Result<(), Fail> {
     let map: FxDashMap<u64, u8> = FxDashMap::new(rt.alloc(), 5)?;
@@ -80,5 +111,24 @@ fn dash_maps_hold_entries(rt: HostRuntime) -> Result<(), Fail> {
     assert!(rt; map.contains_key(&rt, &1));
     assert_eq!(rt; map.remove(&rt, &1), Some(11));
     assert!(rt; !map.contains_key(&rt, &1));
+    assert_eq!(rt; map.remove(&rt, &1), None);
+    Ok(())
+}
+
+#[test]
+fn dash_maps_keep_their_keys_apart(rt: HostRuntime) -> Result<(), Fail> {
+    let map: FxDashMap<u64, u64> = FxDashMap::new(rt.alloc(), 5)?;
+    for key in 0..20u64 {
+        assert_eq!(rt; map.insert(&rt, key, 100 + key)?, None);
+    }
+    for key in 0..10u64 {
+        assert_eq!(rt; map.remove(&rt, &key), Some(100 + key));
+    }
+    for key in 0..20u64 {
+        assert_eq!(rt; map.contains_key(&rt, &key), key >= 10);
+    }
+    for key in 10..20u64 {
+        assert_eq!(rt; map.insert(&rt, key, key)?, Some(100 + key));
+    }
     Ok(())
 }

@@ -1,7 +1,7 @@
 use Rattle.std.proofs.Common.{rules}
 use Rattle.std.proofs.lemmas.List.Sorted.{answers_always}
-use Rattle.tinymist_std.proofs.fingerprint_map.FingerprintMap.into_items.Goals as goal
+use Rattle.tinymist_std.proofs.fingerprint_map.sort_items.Goals as goal
 
-pub returns : goal.returns
-returns g c =
+pub returns-clause-sorted : goal.returns-clause-sorted
+returns-clause-sorted g c =
     c.sort_unstable_by_key.ensures.sorted (λ item. item.0) (answers_always _ _ _ (λ f a r h k. search rules))
