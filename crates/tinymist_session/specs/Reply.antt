@@ -6,7 +6,7 @@ use Rattle.ty_model.specs.Paths.{realize}
 use Rattle.ty_model.specs.Values.{Id, Root, Project, Workspace, UntitledRooted, Package, Answer, Content, Refused, Refusal, NotFound, AccessDenied, IsDirectory, NotSource, InvalidUtf8, OfPackage, Other}
 use Rattle.ty_model.specs.Places as places
 use Rattle.ty_syntax.specs.Lines.{Place, place}
-use Rattle.tinymist_vfs.specs.Workspace.{spec_text}
+use Rattle.ty_syntax.specs.Spec.{spec_text}
 
 -- what a line is answered
 pub data Reply : Type 0 where

@@ -1,14 +1,14 @@
 -- What kind of root an id has, the ids of workspaces, and an id as a text.
 use Rattle.std.specs.Prelude.{◌≡◌, ℕ, ◌+◌, Bool, true, false, if◌then◌else◌, not, List, ◌++◌, codes, Option, Some, None, Result, Ok, Err, ⊤}
-use Rattle.std.specs.Fmt.{decimal}
 use Rattle.ty_model.specs.Values as plain
-use Rattle.ty_model.specs.Values.{Id, Root, Refusal, Spec, Numbers}
+use Rattle.ty_model.specs.Values.{Id, Root, Refusal}
 use Rattle.ty_model.specs.Places.{interned, is_workspace_spec}
 use Rattle.ty_model.specs.Paths.{realize, without_slash}
 use Rattle.ty_model.specs.Counters.{Counters}
 use Rattle.ty_path.specs.Shared.{path_text}
 use Rattle.ty_syntax.specs.Id.{tagged}
 use Rattle.ty_syntax.specs.Error.{refusal_of}
+use Rattle.ty_syntax.specs.Spec.{spec_text}
 use Rattle.ty_syntax.specs.declared.error.FileFault.{FileFault}
 use Rattle.ty_syntax.specs.declared.error.FileFault.TheVariants.{File, OutOfMemory}
 use Rattle.tinymist_vfs.specs.declared.workspace.WorkspaceResolution.{WorkspaceResolution}
@@ -73,10 +73,6 @@ untitled_in (Some root) = plain.UntitledRooted root
 untitled_in None = plain.Project
 
 -- ---- ids as texts
-
--- @namespace/name:major.minor.patch
-abbrev pub spec_text : Spec → List ℕ
-spec_text s = codes "@" ++ s.namespace ++ codes "/" ++ s.name ++ codes ":" ++ decimal s.numbers.major ++ codes "." ++ decimal s.numbers.minor ++ codes "." ++ decimal s.numbers.patch
 
 -- a path below a workspace, the path of an untitled file, or a package and the path in it
 abbrev pub text_in : Root → List ℕ → List ℕ

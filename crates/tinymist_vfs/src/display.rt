@@ -3,12 +3,12 @@ ghost use Rattle.std.specs.Prelude.{◌≡◌, ◌++◌, Some};
 ghost use Rattle.std.specs.Option.{option_copied};
 ghost use Rattle.std.specs.Fmt.{WritesOnOk};
 ghost use Rattle.ty_model.specs.Paths.{realize};
-ghost use Rattle.ty_syntax.specs.Spec.{spec_of};
-ghost use Rattle.tinymist_vfs.specs.Workspace.{id_text, spec_text};
+ghost use Rattle.ty_syntax.specs.Spec.{spec_of, spec_text};
+ghost use Rattle.tinymist_vfs.specs.Workspace.{id_text};
 
 use std::alloc::Global;
 use std::fmt;
-use ty_syntax::{FileId, PackageSpec, PackageVersion, Root, VirtualPath};
+use ty_syntax::{FileId, Root, VirtualPath};
 
 /// An id that is being written: its path below a workspace, the path of an untitled file, or its package
 /// and the path in that. Where memory is wanting, it isn't written.
@@ -29,7 +29,10 @@ impl fmt::Display for Resolving<'_> {
             Root::Project => f.write_str(id.vpath().get_with_slash()),
             Root::Workspace(root) => write_path(f, self.alloc, root.as_str(), id.vpath()),
             Root::UntitledRooted(_) => f.write_str(id.vpath().get_without_slash()),
-            Root::Package(spec) => write_in_package(f, spec, id.vpath().get_with_slash()),
+            Root::Package(spec) => {
+                let path = id.vpath().get_with_slash();
+                write!(f, "{spec}{path}")
+            }
         }
     }
 }
@@ -46,30 +49,4 @@ fn write_path<W: fmt::Write>(
         Ok(path) => f.write_str(path.as_str()),
         Err(_) => Err(fmt::Error),
     }
-}
-
-fn write_in_package<W: fmt::Write>(
-    f: &mut fmt::Formatter<W>,
-    spec: &PackageSpec,
-    path: &str,
-) -> fmt::Result
-    ensures { WritesOnOk W.write_str_gives f.old result (spec_text (spec_of spec.now) ++ path.now) f.new }
-{
-    write_spec(f, spec)?;
-    f.write_str(path)
-}
-
-fn write_spec<W: fmt::Write>(f: &mut fmt::Formatter<W>, spec: &PackageSpec) -> fmt::Result
-    ensures { WritesOnOk W.write_str_gives f.old result (spec_text (spec_of spec.now)) f.new }
-{
-    let PackageVersion {
-        major,
-        minor,
-        patch,
-    } = spec.version;
-    write!(
-        f,
-        "@{}/{}:{major}.{minor}.{patch}",
-        spec.namespace, spec.name
-    )
 }

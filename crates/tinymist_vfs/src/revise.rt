@@ -20,16 +20,19 @@ use crate::vfs::Vfs;
 use std::alloc::Global;
 use std::marker::PhantomData;
 use std::sync::Arc;
+use thiserror::Error;
 use ty_cells::FileSnapshot;
 use ty_path::{ImmutPath, OutOfMemory, Share, clean};
 use ty_syntax::FileId;
 
 /// Why nothing was revised.
-#[derive(Clone, Copy, Debug, PartialEq, Eq)]
+#[derive(Clone, Copy, Debug, PartialEq, Eq, Error)]
 pub enum ReviseFault {
     /// The revision stands at its last value.
+    #[error("the revision stands at its last value")]
     Full,
     /// No memory was left.
+    #[error("out of memory")]
     OutOfMemory,
 }
 

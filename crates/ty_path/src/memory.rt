@@ -2,6 +2,7 @@
 
 use std::alloc::{AllocError, AllocFailed};
 use std::sync::Arc;
+use thiserror::Error;
 
 /// A text that is shared.
 pub type ImmutStr = Arc<String>;
@@ -13,7 +14,8 @@ pub type ImmutPath = Arc<String>;
 pub type ImmutBytes = Arc<Vec<u8>>;
 
 /// No memory was left.
-#[derive(Debug, Drop, Clone, Copy, PartialEq, Eq)]
+#[derive(Debug, Drop, Clone, Copy, PartialEq, Eq, Error)]
+#[error("out of memory")]
 pub struct OutOfMemory;
 
 impl From<AllocError> for OutOfMemory {

@@ -10,14 +10,17 @@ use crate::text::{is_span, spliced};
 use std::alloc::Global;
 use std::marker::Model;
 use std::sync::Arc;
+use thiserror::Error;
 use ty_path::{OutOfMemory, Share};
 
 /// Why a text wasn't edited.
-#[derive(Clone, Copy, Debug, PartialEq, Eq)]
+#[derive(Clone, Copy, Debug, PartialEq, Eq, Error)]
 pub enum EditFault {
     /// The offsets are no span of the text.
+    #[error("no span of the text")]
     Range,
     /// No memory was left.
+    #[error("out of memory")]
     OutOfMemory,
 }
 

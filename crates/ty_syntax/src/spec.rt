@@ -1,9 +1,10 @@
 //! Package specifications.
-ghost use Rattle.std.specs.Prelude.{◌≡◌, ℕ, List};
+ghost use Rattle.std.specs.Prelude.{◌≡◌, ℕ, List, Some};
 ghost use Rattle.ty_model.specs.Values as plain;
-ghost use Rattle.ty_syntax.specs.Spec.{spec_of, names_of};
+ghost use Rattle.ty_syntax.specs.Spec.{spec_of, names_of, numbers_of, numbers_text, spec_text};
 
 use std::alloc::Global;
+use std::fmt;
 use ty_path::{OutOfMemory, Share};
 
 /// The version of a package. Versions are ordered by these numbers in turn.
@@ -20,6 +21,30 @@ pub struct PackageSpec {
     pub namespace: String,
     pub name: String,
     pub version: PackageVersion,
+}
+
+/// `major.minor.patch`.
+impl fmt::Display for PackageVersion {
+    ghost output = { λ v. Some (numbers_text (numbers_of v)) };
+
+    fn fmt<W: fmt::Write>(&self, f: &mut fmt::Formatter<W>) -> fmt::Result {
+        let PackageVersion {
+            major,
+            minor,
+            patch,
+        } = *self;
+        write!(f, "{major}.{minor}.{patch}")
+    }
+}
+
+/// `@namespace/name:major.minor.patch`.
+impl fmt::Display for PackageSpec {
+    ghost output = { λ s. Some (spec_text (spec_of s)) };
+
+    fn fmt<W: fmt::Write>(&self, f: &mut fmt::Formatter<W>) -> fmt::Result {
+        let version = self.version;
+        write!(f, "@{}/{}:{version}", self.namespace, self.name)
+    }
 }
 
 /// A package of any version.

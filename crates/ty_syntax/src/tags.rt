@@ -2,14 +2,17 @@
 ghost use Rattle.std.specs.Prelude.{◌≡◌, ◌+◌, ◌-◌, ◌^◌, ◌<◌, OnErr, IfOk, IsErr, IfErr, ◌↔◌};
 
 use std::marker::Model;
+use thiserror::Error;
 use ty_path::OutOfMemory;
 
 /// Why no number was drawn.
-#[derive(Clone, Copy, Debug, PartialEq, Eq)]
+#[derive(Clone, Copy, Debug, PartialEq, Eq, Error)]
 pub enum TagFault {
     /// The counter stands at its last value.
+    #[error("the counter stands at its last value")]
     Full,
     /// No memory was left.
+    #[error("out of memory")]
     OutOfMemory,
 }
 

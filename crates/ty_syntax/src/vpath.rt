@@ -13,16 +13,20 @@ use std::alloc::Global;
 use std::marker::Model;
 use std::path::{Component, Path};
 use std::sync::Arc;
+use thiserror::Error;
 use ty_path::{ImmutStr, OutOfMemory, Share, clean, diff, join};
 
 /// Why a text is no virtual path.
-#[derive(Clone, Copy, Debug, PartialEq, Eq)]
+#[derive(Clone, Copy, Debug, PartialEq, Eq, Error)]
 pub enum PathFault {
     /// A `..` goes above the root.
+    #[error("the path leaves its root")]
     Escapes,
     /// The text holds a NUL byte.
+    #[error("the path holds a NUL byte")]
     BadByte,
     /// No memory was left.
+    #[error("out of memory")]
     OutOfMemory,
 }
 
