@@ -41,6 +41,7 @@ impl<'d, M: PathAccessModel> OwnCells<'d, M> {
     {
         self.disk.content(alloc, path)
     }
+
     /// Lets the disk forget what it keeps to answer faster. What it tells stays.
     pub fn reset(&mut self)
         ensures same_disk { self.new.disk.ghost_name ≡ self.old.disk.ghost_name }

@@ -81,10 +81,7 @@ impl FileSnapshot {
         ensures answer { SaysFile self.now result }
         ensures free { (bytes : List ℕ) → self.now ≡ Content bytes → IsOk result }
     {
-        match self.content(alloc) {
-            Ok(_) => Ok(true),
-            Err(fault) => Err(fault),
-        }
+        self.content(alloc).map(|_bytes| true)
     }
 
     /// Whether both say the same, by their bytes or errors.

@@ -1,11 +1,12 @@
 //! The files of the system, of which nothing is told.
-ghost use Rattle.std.specs.Prelude.{◌≡◌, None, IsTrue};
+ghost use Rattle.std.specs.Prelude.{◌≡◌, None, IsTrue, string_bytes};
 
 use crate::disk::PathAccessModel;
 use crate::snapshot::FileSnapshot;
 use std::alloc::Global;
 use std::fs;
 use std::io::{self, ErrorKind};
+use std::marker::Model;
 use std::rt::Files;
 use ty_path::OutOfMemory;
 use ty_syntax::{Bytes, FileError};
@@ -19,6 +20,7 @@ pub struct SystemAccessModel<R: Files + AllocGlobal + Drop> {
 /// What the system says of a file without its content.
 #[derive(Clone, Copy, Debug, PartialEq, Eq)]
 pub struct SystemFileMeta {
+    /// Whether the path is that of a folder.
     pub is_dir: bool,
 }
 
@@ -57,16 +59,24 @@ impl<R: Files + AllocGlobal + Drop> PathAccessModel for SystemAccessModel<R> {
     fn reset(&mut self) {}
 }
 
-/// A file of the system that isn't opened before it is read.
+/// A file of the system that isn't opened before it is read. Contracts see its path.
 #[derive(Drop)]
 pub struct LazyFile {
     path: String,
 }
 
+impl Model for LazyFile {
+    ghost use Rattle.std.specs.Prelude.{ℕ, List, string_bytes};
+
+    ghost Value = { List ℕ };
+
+    ghost view = { λ f. string_bytes f.path };
+}
+
 impl LazyFile {
     /// The file at a path.
     pub fn new(path: String) -> LazyFile
-        ensures { result.path ≡ path }
+        ensures { result ≡ string_bytes path }
     {
         LazyFile { path }
     }

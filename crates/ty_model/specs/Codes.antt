@@ -25,6 +25,7 @@ abbrev pub option_from : List (List ℕ) → Option (List ℕ)
 option_from [] = None
 option_from (text ∷ texts) = Some text
 
+-- its key gives it back
 pub option_back : (text : Option (List ℕ)) → option_from (option_key text) ≡ text
 option_back None = refl
 option_back (Some text) = refl
@@ -45,6 +46,7 @@ root_from ks =
     else if kind_of ks == 2 then UntitledRooted (text_at ks 1)
     else Package (spec_from (tail_of ks))
 
+-- the key of a root gives it back
 pub root_back : (root : Root) → root_from (root_key root) ≡ root
 root_back Project = refl
 root_back (Workspace root) = refl
@@ -60,6 +62,7 @@ package_from ks =
     else if kind_of ks == 3 then MalformedArchive (option_from (tail_of ks))
     else OtherPackage (option_from (tail_of ks))
 
+-- the key of what is wrong with a package gives it back
 pub package_back : (refusal : PackageRefusal) → package_from (package_key refusal) ≡ refusal
 package_back (NoPackage spec) = refl
 package_back (NoVersion spec latest) = refl
@@ -82,6 +85,7 @@ answer_from ks =
     else if kind_of ks == 6 then Refused (OfPackage (package_from (tail_of ks)))
     else Refused (Other (option_from (tail_of ks)))
 
+-- the key of what is wrong with a file gives it back
 refusal_back : (refusal : Refusal) → answer_from (refusal_key refusal) ≡ Refused refusal
 refusal_back (NotFound path) = refl
 refusal_back AccessDenied = refl
@@ -92,13 +96,14 @@ refusal_back (OfPackage refusal) = λ i. Refused (OfPackage (package_back refusa
 refusal_back (Other None) = refl
 refusal_back (Other (Some text)) = refl
 
+-- the key of an answer gives it back
 pub answer_back : (answer : Answer) → answer_from (answer_key answer) ≡ answer
 answer_back (Content bytes) = refl
 answer_back (Refused refusal) = refusal_back refusal
 
 -- ---- codes
 
--- texts, and lists of texts, have codes
+-- texts have codes
 abbrev pub text_code : Coded (List ℕ)
 text_code = coded_list coded_ℕ
 
@@ -139,6 +144,7 @@ rest_key AllDenied = 1
 abbrev pub rest_from : ℕ → Rest
 rest_from n = if n == 0 then NothingElse else AllDenied
 
+-- the number of a rest gives it back
 pub rest_back : (rest : Rest) → rest_from (rest_key rest) ≡ rest
 rest_back NothingElse = refl
 rest_back AllDenied = refl

@@ -31,7 +31,7 @@ place_decision l (RefusedAt refusal) = Says (Refused refusal)
 abbrev pub decision : Version → Id → Decision
 decision v id = said_or (map.get v.layers.by_id id) (place_decision v.layers (place_of v.resolver id))
 
--- a decision over a disk: the answer, and what the disk tells afterwards
+-- the answer of a decision over a disk
 abbrev pub answer_by : Decision → Told → Answer
 answer_by (Says answer) disk = answer
 answer_by (Asks path) disk = answer_of disk path

@@ -28,7 +28,7 @@ abbrev pub is_absolute : List ℕ → Bool
 is_absolute [] = false
 is_absolute (b ∷ bs) = b == 47
 
--- the texts . and ..
+-- the text .
 abbrev pub dot : List ℕ
 dot = 46 ∷ []
 

@@ -75,7 +75,7 @@ id_below None name = None
 abbrev pub id_by_parent : List ℕ → Option Id
 id_by_parent path = if is_absolute path then id_below (parent path) (file_name path) else None
 
--- the ids that have a tag from the start
+-- the main file of an editor that has none open
 abbrev pub detached_entry : Id
 detached_entry = record { root = Project; vpath = codes "/__detached.typ"; tag = 1 }
 

@@ -37,7 +37,7 @@ abbrev pub touched_paths : Layers → List Item → List (List ℕ)
 touched_paths l [] = []
 touched_paths l (item ∷ items) = item_paths l item ++ touched_paths l items
 
--- old and new have the same at a key
+-- old and new have the same at an id
 abbrev pub same_id_at : Layers → Layers → Id → Bool
 same_id_at old new id = same_option same_answer (finmap.get old.by_id id) (finmap.get new.by_id id)
 

@@ -1,4 +1,4 @@
--- Ids, answers and resolvers as plain data. A text, a path and some bytes are lists of bytes.
+-- Ids and answers as plain data. A text, a path and some bytes are lists of bytes.
 use Rattle.std.specs.Prelude.{ℕ, Bool, List, [], ◌∷◌, Option, Some, None}
 use Rattle.std.specs.Ordering.{nat_cmp, is_eq}
 use Rattle.std.specs.Cmp.Lexicographic.{slice_cmp}
@@ -81,7 +81,7 @@ spec_cmp a b = slice_cmp text_cmp (spec_key a) (spec_key b)
 abbrev pub id_cmp : Id → Id → Ordering
 id_cmp a b = slice_cmp (slice_cmp text_cmp) (id_key a) (id_key b)
 
--- ---- answers as keys, so that a test can compare them
+-- ---- answers as keys, by which they are compared
 
 -- a text that may be missing, as a key
 abbrev pub option_key : Option (List ℕ) → List (List ℕ)

@@ -22,7 +22,7 @@ component_named text = if bytes_eq text (47 ∷ []) then RootDir else component_
 abbrev pub components_left : Components → List Component
 components_left rest = map component_named (components_remaining rest)
 
--- of these, the last one first: whether a name comes first, and what else there is
+-- a name comes first of these components
 abbrev pub name_first : List Component → Bool
 name_first (Normal name ∷ kept) = true
 name_first kept = false

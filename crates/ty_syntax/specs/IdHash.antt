@@ -4,7 +4,7 @@ use Rattle.std.specs.Hash as fed
 use Rattle.std.proofs.Common.{ap}
 use Rattle.ty_model.specs.Values as plain
 use Rattle.ty_model.proofs.Tests.{same_id-Decides}
-use Rattle.ty_syntax.specs.IdOrder.{same_id}
+use Rattle.ty_model.specs.Version.{same_id}
 
 -- what a specification feeds to a hash
 abbrev pub fed_spec : plain.Spec → fed.HashWrites

@@ -1,4 +1,4 @@
--- Why a text is no virtual path.
+-- The virtual path of a text, or why it is none.
 use Rattle.std.specs.Prelude.{◌≡◌, ℕ, List, Result, Ok, Err, ⊤}
 use Rattle.ty_model.specs.Paths as plain
 use Rattle.ty_syntax.specs.declared.vpath.PathFault.{PathFault}

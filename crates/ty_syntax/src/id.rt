@@ -2,7 +2,8 @@
 ghost use Rattle.std.specs.Prelude.{◌≡◌, ◌+◌, ◌-◌, ◌^◌, ◌↔◌, IfOk, OnErr, IsErrOf, fold, refl};
 ghost use Rattle.ty_model.specs.Values as plain;
 ghost use Rattle.std.specs.Ordering.{as_partial_cmp};
-ghost use Rattle.ty_syntax.specs.IdOrder.{root_cmp, same_id, id_total, id_equiv, id_part, id_order};
+ghost use Rattle.ty_model.specs.Version.{same_id};
+ghost use Rattle.ty_syntax.specs.IdOrder.{root_cmp, id_total, id_equiv, id_part, id_order};
 ghost use Rattle.ty_syntax.specs.IdHash.{fed_root, fed_id, fed_alike};
 ghost use Rattle.ty_syntax.specs.Id.{root_of};
 ghost use Rattle.ty_model.specs.Places.{interned, stored_root};

@@ -1,4 +1,5 @@
-//! Ids, virtual paths, specifications, bytes and the errors of files, as values.
+//! Ids, virtual paths, specifications, bytes and the errors of files, as values; sources and their lines; and the
+//! counters of tags.
 #![tactic(auto)]
 
 mod bytes;

@@ -4,8 +4,11 @@ use std::marker::Model;
 /// A line, and how far an offset lies from its start, in characters and in UTF-16 code units. All count from 0.
 #[derive(Clone, Copy, Debug, PartialEq, Eq)]
 pub struct Place {
+    /// The line.
     pub line: usize,
+    /// The characters between the line's start and the offset.
     pub column: usize,
+    /// The UTF-16 code units between them.
     pub utf16: usize,
 }
 

@@ -10,16 +10,22 @@ use ty_path::{OutOfMemory, Share};
 /// The version of a package. Versions are ordered by these numbers in turn.
 #[derive(Clone, Copy, Debug, PartialEq, Eq, PartialOrd, Ord, Hash)]
 pub struct PackageVersion {
+    /// It rises with a change that breaks callers.
     pub major: u32,
+    /// It rises with what is new.
     pub minor: u32,
+    /// It rises with what is mended.
     pub patch: u32,
 }
 
 /// A package of one version.
 #[derive(Debug, PartialEq, Eq, PartialOrd, Ord, Hash, Drop)]
 pub struct PackageSpec {
+    /// Where the package comes from, as `preview`.
     pub namespace: String,
+    /// The package within its namespace.
     pub name: String,
+    /// Which of its versions it is.
     pub version: PackageVersion,
 }
 
@@ -50,7 +56,9 @@ impl fmt::Display for PackageSpec {
 /// A package of any version.
 #[derive(Debug, PartialEq, Eq, PartialOrd, Ord, Hash, Drop)]
 pub struct VersionlessPackageSpec {
+    /// Where the package comes from, as `preview`.
     pub namespace: String,
+    /// The package within its namespace.
     pub name: String,
 }
 

@@ -280,3 +280,71 @@ fn equal_ids_hash_alike(rt: HostRuntime) -> Result<(), Fail> {
     assert!(rt; hash_of(&one) != hash_of(&memory_main_entry(rt.alloc())?));
     Ok(())
 }
+
+fn spec(alloc: Global) -> Result<PackageSpec, Fail> {
+    Ok(PackageSpec {
+        namespace: String::from_str(alloc, "preview")?,
+        name: String::from_str(alloc, "a_b")?,
+        version: PackageVersion {
+            major: 0,
+            minor: 12,
+            patch: 345,
+        },
+    })
+}
+
+#[test]
+fn errors_of_files_print(rt: HostRuntime) -> Result<(), Fail> {
+    let alloc = rt.alloc();
+    let rows = [
+        (
+            FileError::NotFound(String::from_str(alloc, "/w/é")?),
+            "no file at /w/é",
+        ),
+        (FileError::AccessDenied, "access denied"),
+        (FileError::IsDirectory, "is a directory"),
+        (FileError::NotSource, "not a source file"),
+        (FileError::InvalidUtf8, "not valid UTF-8"),
+        (
+            FileError::Other(Some(String::from_str(alloc, "no disk")?)),
+            "file not loaded: no disk",
+        ),
+        (FileError::Other(None), "file not loaded"),
+    ];
+    for (error, want) in rows {
+        let text = FileFault::File(error).to_string(alloc)?;
+        assert_eq!(rt; text.as_str(), want);
+    }
+    Ok(())
+}
+
+#[test]
+fn errors_of_packages_print(rt: HostRuntime) -> Result<(), Fail> {
+    let alloc = rt.alloc();
+    let latest = PackageVersion {
+        major: 1,
+        minor: 2,
+        patch: 3,
+    };
+    let rows = [
+        (
+            PackageError::NotFound(spec(alloc)?),
+            "no package @preview/a_b:0.12.345",
+        ),
+        (
+            PackageError::VersionNotFound(spec(alloc)?, latest),
+            "no package @preview/a_b:0.12.345, whose latest version is 1.2.3",
+        ),
+        (PackageError::NetworkFailed(None), "package not fetched"),
+        (PackageError::MalformedArchive(None), "malformed package"),
+        (
+            PackageError::Other(Some(String::from_str(alloc, "too old")?)),
+            "package not loaded: too old",
+        ),
+    ];
+    for (error, want) in rows {
+        let text = FileError::Package(error).to_string(alloc)?;
+        assert_eq!(rt; text.as_str(), want);
+    }
+    Ok(())
+}

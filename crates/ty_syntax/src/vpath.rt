@@ -61,6 +61,11 @@ impl Model for VirtualPath {
 
 impl VirtualPath {
     /// The text below the root, cleaned. A slash at its front changes nothing.
+    ///
+    /// # Errors
+    ///
+    /// `BadByte` exactly where the text holds a NUL byte, and else `Escapes` exactly where a `..` of it
+    /// goes above the root.
     pub fn new(alloc: Global, text: &str) -> Result<VirtualPath, PathFault>
         ensures { IsVirtualPath (plain.virtual_path text.now) result }
     {
