@@ -35,7 +35,7 @@ abbrev pub upstream_of : FilesystemEvent → Option UpstreamUpdateEvent
 upstream_of (Update set sync) = None
 upstream_of (UpstreamUpdate set upstream) = upstream
 
--- an upstream update is no sync
+-- whether the change set of an event is all files; that of an upstream update never is
 abbrev pub sync_of : FilesystemEvent → Bool
 sync_of (Update set sync) = sync
 sync_of (UpstreamUpdate set upstream) = false

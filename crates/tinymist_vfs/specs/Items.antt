@@ -12,7 +12,7 @@ use Rattle.tinymist_vfs.specs.declared.item.Item.TheVariants.{MapPath, UnmapPath
 abbrev pub file_of : Path × Answer → List ℕ × Answer
 file_of f = (path_text f.0, f.1)
 
--- the cleaned text of a path, and a file under its cleaned path
+-- the cleaned text of a path
 abbrev pub clean_text : Path → List ℕ
 clean_text path = clean (path_text path)
 

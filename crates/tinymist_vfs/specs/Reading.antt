@@ -1,8 +1,7 @@
 -- A read of an id, and its source: the answer, and what the disk tells before and after.
-use Rattle.std.specs.Prelude.{◌≡◌, ◌⊎◌, ℕ, List, Option, Some, None, Result, Ok, Err, IfOk, ⊤}
+use Rattle.std.specs.Prelude.{◌≡◌, ◌⊎◌, ℕ, List, Option, Some, None, Result, Ok, Err, IfOk, ⊤, string_bytes}
 use Rattle.ty_model.specs.Disk.{Told, answer_of, after_ask}
 use Rattle.ty_model.specs.LookUp as plain
-use Rattle.ty_path.specs.Shared.{path_text}
 use Rattle.ty_syntax.specs.Error.{refusal_of}
 use Rattle.ty_syntax.specs.Source.{Source}
 use Rattle.ty_syntax.specs.Text.{text_of}
@@ -17,7 +16,7 @@ use Rattle.tinymist_vfs.specs.declared.reading.Decision.TheVariants.{Says, Refus
 abbrev pub decision_of : Decision → plain.Decision
 decision_of (Says answer) = plain.Says answer
 decision_of (Refuses error) = plain.Says (Refused (refusal_of error))
-decision_of (Asks path) = plain.Asks (path_text path)
+decision_of (Asks path) = plain.Asks (string_bytes path)
 
 -- the disk was asked for the path: where memory was wanting, it may have given the answer or not
 abbrev pub AsksAsTold : List ℕ → Option Told → Result (List ℕ) FileFault → Option Told → Type 0

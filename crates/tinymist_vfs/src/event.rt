@@ -16,7 +16,9 @@ pub enum MemoryEvent {
 /// What has to be watched anew, and a number that comes back with the answer.
 #[derive(Drop)]
 pub struct UpstreamUpdateEvent {
+    /// The paths that have to be watched anew.
     pub invalidates: Vec<ImmutPath>,
+    /// The number that comes back with the answer.
     pub opaque: u64,
 }
 
@@ -27,7 +29,9 @@ pub enum FilesystemEvent {
     Update(FileChangeSet, bool),
     /// The answer to an upstream event.
     UpstreamUpdate {
+        /// What changed.
         changeset: FileChangeSet,
+        /// The event that is answered, if there is one.
         upstream_event: Option<UpstreamUpdateEvent>,
     },
 }

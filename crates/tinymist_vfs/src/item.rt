@@ -11,7 +11,9 @@ use ty_syntax::FileId;
 /// Paths that are no longer told, and then files that are.
 #[derive(Drop)]
 pub struct FileChangeSet {
+    /// The paths that are no longer told.
     pub removes: Vec<ImmutPath>,
+    /// The files that are told from then on, each under its path. The last one of a path stands.
     pub inserts: Vec<(ImmutPath, FileSnapshot)>,
 }
 

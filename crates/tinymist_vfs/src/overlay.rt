@@ -125,13 +125,21 @@ impl<N: PathAccessModel + Drop> PathAccessModel for OverlayAccessModel<ImmutPath
 impl<N: AccessModel + Drop> AccessModel for OverlayAccessModel<FileId, N> {
     ghost use Rattle.std.specs.FinMap as map;
     ghost use Rattle.tinymist_vfs.specs.Maps.{id_map};
-    ghost use Rattle.tinymist_vfs.specs.Access.{Shadowed};
+    ghost use Rattle.std.specs.Prelude.{◌↔◌};
+    ghost use Rattle.ty_model.specs.Disk.{Told};
+    ghost use Rattle.ty_model.specs.Values.{Id};
+    ghost use Rattle.tinymist_vfs.specs.Access.{AnswersOver, Found, Shadowed};
 
     ghost told = { λ s. N.told s.inner };
 
     ghost gives = { λ s id. Shadowed (map.get (id_map s.files.entries) id) (N.gives s.inner id) };
 
-    fn content(&mut self, alloc: Global, id: &FileId) -> (Option<ImmutPath>, FileResult<Bytes>) {
+    /// What the file of an id says, and else what the inner model says, which isn't asked where there is one.
+    fn content(&mut self, alloc: Global, id: &FileId) -> (Option<ImmutPath>, FileResult<Bytes>)
+        ensures answer { AnswersOver (Shadowed (map.get (id_map self.old.files.entries) id.now) (N.gives self.old.inner id.now)) (N.told self.old.inner) result (N.told self.new.inner) }
+        ensures same { (other : Id) (disk : Told) (found : Found) (left : Told) → Shadowed (map.get (id_map self.new.files.entries) other) (N.gives self.new.inner other) disk found left ↔ Shadowed (map.get (id_map self.old.files.entries) other) (N.gives self.old.inner other) disk found left }
+        ensures untouched { IsSome (map.get (id_map self.old.files.entries) id.now) → self.new ≡ self.old }
+    {
         match at_id(&self.files, id) {
             Some(file) => (None, bytes_of(alloc, file)),
             None => self.inner.content(alloc, id),

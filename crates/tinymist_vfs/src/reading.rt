@@ -1,6 +1,5 @@
 //! A read of an id, and its source: what the layers decide, else what the disk says.
-ghost use Rattle.std.specs.Prelude.{◌≡◌, ◌⊎◌, IfOk, Option};
-ghost use Rattle.ty_path.specs.Shared.{path_text};
+ghost use Rattle.std.specs.Prelude.{◌≡◌, ◌⊎◌, IfOk, Option, string_bytes};
 ghost use Rattle.ty_model.specs.Values.{Answer, Content};
 ghost use Rattle.ty_model.specs.LookUp as plain;
 ghost use Rattle.ty_model.specs.Disk.{Told};
@@ -9,12 +8,11 @@ ghost use Rattle.tinymist_vfs.specs.Reading.{decision_of, ReadsAsTold, AsksAsTol
 
 use crate::layers::Layers;
 use crate::resolver::{PathResolution, RootResolver};
-use crate::store::{at_id, at_path};
+use crate::store::{at_id, at_text};
 use crate::vfs::Vfs;
 use std::alloc::Global;
-use std::sync::Arc;
 use ty_cells::{FileSnapshot, OwnCells, PathAccessModel};
-use ty_path::{ImmutPath, OutOfMemory, Share};
+use ty_path::{OutOfMemory, Share};
 use ty_syntax::{Bytes, FileError, FileFault, FileId, FileResult, Source, text_of};
 
 /// What a version says of an id by itself.
@@ -25,18 +23,18 @@ pub(crate) enum Decision {
     /// It has no path, or its package is refused.
     Refuses(FileError),
     /// The disk decides.
-    Asks(ImmutPath),
+    Asks(String),
 }
 
 impl Layers {
     /// The path overlay before the told files, and these before the disk.
-    fn decide(&self, alloc: Global, path: ImmutPath) -> Result<Decision, OutOfMemory>
-        ensures { IfOk result (λ d. decision_of d ≡ plain.path_decision self.now (path_text path)) }
+    fn decide(&self, alloc: Global, path: String) -> Result<Decision, OutOfMemory>
+        ensures { IfOk result (λ d. decision_of d ≡ plain.path_decision self.now (string_bytes path)) }
     {
-        if let Some(shadow) = at_path(&self.by_path, &path) {
+        if let Some(shadow) = at_text(&self.by_path, &path) {
             return Ok(Decision::Says(shadow.share(alloc)?));
         }
-        if let Some(told) = at_path(&self.told, &path) {
+        if let Some(told) = at_text(&self.told, &path) {
             return Ok(Decision::Says(told.share(alloc)?));
         }
         Ok(Decision::Asks(path))
@@ -51,9 +49,7 @@ impl<R: RootResolver> Vfs<R> {
             return Ok(Decision::Says(shadow.share(self.alloc)?));
         }
         match self.resolver.path_for_id(self.alloc, id) {
-            Ok(PathResolution::Resolved(path)) => {
-                self.layers.decide(self.alloc, Arc::new(self.alloc, path)?)
-            }
+            Ok(PathResolution::Resolved(path)) => self.layers.decide(self.alloc, path),
             Ok(PathResolution::Rootless(_)) => Ok(Decision::Refuses(FileError::AccessDenied)),
             Err(FileFault::File(error)) => Ok(Decision::Refuses(error)),
             Err(FileFault::OutOfMemory) => Err(OutOfMemory),

@@ -1,5 +1,5 @@
 //! A batch of changes of the layers, over whatever holds them.
-ghost use Rattle.std.specs.Prelude.{◌≡◌, List, [], ◌∷◌, ◌++◌, OnOk, OnErr, IfOk, IsErr, IsErrOf, map, true, false};
+ghost use Rattle.std.specs.Prelude.{◌≡◌, List, [], ◌∷◌, ◌++◌, refl, OnOk, OnErr, IfOk, IsErr, IsErrOf, map, true, false};
 ghost use Rattle.std.specs.Borrow.{sem, RestsIfErr};
 ghost use Rattle.ty_model.specs.Held.{Kept};
 ghost use Rattle.ty_model.specs.Standing.{Held};
@@ -9,7 +9,7 @@ ghost use Rattle.ty_model.specs.Paths as paths;
 ghost use Rattle.tinymist_vfs.specs.Items.{items_of, file_of, clean_text, clean_file, gathered};
 ghost use Rattle.tinymist_vfs.specs.ChangeSet.{set_of};
 ghost use Rattle.ty_path.specs.Shared.{path_text};
-ghost use Rattle.tinymist_vfs.specs.Commits.{put_held, is_full};
+ghost use Rattle.tinymist_vfs.specs.Commits.{put_held, committed, is_full};
 ghost use Rattle.ty_model.specs.Touched.{commit_held};
 ghost use Rattle.ty_model.specs.Places.{Resolver};
 ghost use Rattle.ty_model.specs.Standing.{IsCommit, Stands, past_after, version_with};
@@ -49,19 +49,29 @@ impl From<OutOfMemory> for ReviseFault {
 
 /// What holds layers and can commit a batch to them.
 pub trait HoldsVfs<R> {
+    /// The layers that are held.
     ghost kept: { Self → Kept R };
 
     /// The holder with these layers.
     ghost with_held: { Self → Held → Self };
 
+    /// The layers that are held.
     fn vfs(&self) -> &Vfs<R>
         ensures { result.now ≡ kept self.now };
 
+    /// Commits a batch, and answers the revision.
+    ///
+    /// # Errors
+    ///
+    /// `Full` exactly where the revision would rise past its last value.
     fn commit(&mut self, batch: &[Item]) -> Result<u64, ReviseFault>
         ensures ok { IfOk result (λ n. (self.new ≡ with_held self.old (commit_held (kept self.old).held (items_of batch.now))) × (n ≡ (commit_held (kept self.old).held (items_of batch.now)).revision)) }
         ensures err { OnErr result (self.new ≡ self.old) }
         ensures full { IsErrOf result ReviseFault.Full → is_full (kept self.old).held (items_of batch.now) }
         ensures exact { is_full (kept self.old).held (items_of batch.now) → IsErr result };
+
+    /// The holder with these layers holds them.
+    ghost holds: { (s : Self) (h : Held) → kept (with_held s h) ≡ put_held (kept s) h };
 }
 
 impl<R> HoldsVfs<R> for Vfs<R> {
@@ -76,6 +86,8 @@ impl<R> HoldsVfs<R> for Vfs<R> {
     fn commit(&mut self, batch: &[Item]) -> Result<u64, ReviseFault> {
         self.commit_batch(batch)
     }
+
+    ghost holds = { λ s h. refl };
 }
 
 /// The cleaned path, to be shared.
@@ -287,6 +299,7 @@ impl<'a, R, H: HoldsVfs<R>> RevisingVfs<'a, R, H> {
     /// is then as before.
     pub fn finish(self) -> Result<u64, ReviseFault>
         ensures ok { IfOk result (λ n. (self.exit.0.now ≡ H.with_held self.entry.holder.now (commit_held (H.kept self.entry.holder.now).held (gathered self.entry.batch.items self.entry.changes_view))) × (n ≡ (commit_held (H.kept self.entry.holder.now).held (gathered self.entry.batch.items self.entry.changes_view)).revision)) }
+        ensures kept { OnOk result (H.kept self.exit.0.now ≡ committed (H.kept self.entry.holder.now) (gathered self.entry.batch.items self.entry.changes_view)) }
         ensures commit { IsCommit (H.kept self.entry.holder.now).held (gathered self.entry.batch.items self.entry.changes_view) (commit_held (H.kept self.entry.holder.now).held (gathered self.entry.batch.items self.entry.changes_view)) }
         ensures err { OnErr result (self.exit.0.now ≡ self.entry.holder.now) }
         ensures full { IsErrOf result ReviseFault.Full → is_full (H.kept self.entry.holder.now).held (gathered self.entry.batch.items self.entry.changes_view) }
@@ -301,9 +314,7 @@ impl<'a, R, H: HoldsVfs<R>> RevisingVfs<'a, R, H> {
             alloc: _,
             resolver: _,
         } = self;
-        let Ok(batch) = with_view(batch, changes_view) else {
-            return Err(ReviseFault::OutOfMemory);
-        };
+        let batch = with_view(batch, changes_view)?;
         let answer = holder.commit(batch.as_slice());
         drop(batch);
         answer

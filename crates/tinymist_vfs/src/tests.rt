@@ -254,10 +254,25 @@ fn change_sets_grow(rt: HostRuntime) -> Result<(), Fail> {
     let more = vec![in alloc; (path(alloc, "/c")?, holding(alloc, "c")?)]?;
     set.may_extend(Some(more))?;
     set.may_extend(None)?;
-    assert_eq!(rt; (set.removes.len(), set.inserts.len()), (1, 2));
+    assert_eq!(rt; joined(alloc, &set.removes)?.as_str(), "/a ");
+    let [(first, one), (second, two)] = set.inserts.as_slice() else {
+        panic!(rt; "two files were inserted");
+    };
+    assert_eq!(rt; (first.as_str(), second.as_str()), ("/b", "/c"));
+    assert!(rt; one.same_as(&holding(alloc, "b")?) && two.same_as(&holding(alloc, "c")?));
     let none = Vec::new(alloc);
     assert!(rt; FileChangeSet::new_inserts(alloc, none).is_empty());
     Ok(())
+}
+
+/// The paths in their order, with a space behind each.
+fn joined(alloc: Global, paths: &[ImmutPath]) -> Result<String, Fail> {
+    let mut text = String::new(alloc);
+    for path in paths {
+        text.push_str(path.as_str())?;
+        text.push(' ')?;
+    }
+    Ok(text)
 }
 
 /// A set that removes one path.
@@ -269,10 +284,8 @@ fn removes_one(alloc: Global) -> Result<FileChangeSet, Fail> {
 fn watchers_tell_of_changes(rt: HostRuntime) -> Result<(), Fail> {
     let event = FilesystemEvent::Update(removes_one(rt.alloc())?, true);
     let (set, upstream, is_sync) = event.split_with_is_sync();
-    assert_eq!(rt;
-        (set.removes.len(), upstream.is_none(), is_sync),
-        (1, true, true)
-    );
+    assert_eq!(rt; joined(rt.alloc(), &set.removes)?.as_str(), "/a ");
+    assert_eq!(rt; (upstream.is_none(), is_sync), (true, true));
     Ok(())
 }
 
@@ -288,13 +301,10 @@ fn watchers_answer_what_was_asked(rt: HostRuntime) -> Result<(), Fail> {
         upstream_event: Some(asked),
     };
     let (set, upstream, is_sync) = event.split_with_is_sync();
+    assert_eq!(rt; joined(alloc, &set.removes)?.as_str(), "/a ");
     assert_eq!(rt;
-        (
-            set.removes.len(),
-            upstream.map(|event| event.opaque),
-            is_sync
-        ),
-        (1, Some(7), false)
+        (upstream.map(|event| event.opaque), is_sync),
+        (Some(7), false)
     );
     Ok(())
 }
@@ -302,11 +312,15 @@ fn watchers_answer_what_was_asked(rt: HostRuntime) -> Result<(), Fail> {
 #[test]
 fn watched_paths_are_told(rt: HostRuntime) -> Result<(), Fail> {
     let alloc = rt.alloc();
-    let watched = vec![in alloc; path(alloc, "/a")?, path(alloc, "/b")?]?;
-    let mut bytes: usize = 0;
-    let mut each = |path: &ImmutPath| bytes = bytes.saturating_add(path.as_str().len());
+    let watched = vec![in alloc; path(alloc, "/a")?, path(alloc, "/bc")?]?;
+    let mut lengths: usize = 0;
+    let mut each = |path: &ImmutPath| {
+        lengths = lengths
+            .saturating_mul(10)
+            .saturating_add(path.as_str().len());
+    };
     watched.dependencies(&mut each);
-    assert_eq!(rt; bytes, 4);
+    assert_eq!(rt; lengths, 23);
     Ok(())
 }
 
@@ -331,7 +345,7 @@ fn files_stand_over_a_disk(rt: HostRuntime) -> Result<(), Fail> {
             .same_as(&holding(alloc, "told")?)
     );
     assert!(rt; over.holds("/w/b.typ", &holding(alloc, "told")?));
-    assert_eq!(rt; over.file_paths()?.len(), 1);
+    assert_eq!(rt; joined(alloc, &over.file_paths()?)?.as_str(), "/w/a.typ ");
     over.remove_file(&path(alloc, "/w/a.typ")?)?;
     over.reset();
     assert!(rt;
@@ -370,7 +384,7 @@ fn ids_stand_over_their_paths(rt: HostRuntime) -> Result<(), Fail> {
     let folder = Root::Workspace(String::from_str(alloc, "/w")?);
     let id = id_below(alloc, folder)?;
     let (place, bytes) = over.content(alloc, &id);
-    assert!(rt; place.is_some());
+    assert!(rt; place.is_some_and(|place| place.as_str() == "/w/a.typ"));
     assert_eq!(rt; bytes?.as_slice(), b"path".as_slice());
     over.add_file(id_below(alloc, Root::Project)?, holding(alloc, "id")?)?;
     let (place, bytes) = over.content(alloc, &id_below(alloc, Root::Project)?);

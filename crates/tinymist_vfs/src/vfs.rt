@@ -147,6 +147,10 @@ impl<R: RootResolver> Vfs<R> {
     }
 
     /// A copy under a fresh space number.
+    ///
+    /// # Errors
+    ///
+    /// `Full` exactly where the counter of spaces stands at its last value.
     pub fn snapshot<L: Ledger>(
         &self,
         tags: &mut Tags,
@@ -179,6 +183,10 @@ impl<R: RootResolver> Vfs<R> {
 
     /// The same layers under a fresh space number, as one version without a past: nothing was dropped yet,
     /// and nothing changed since.
+    ///
+    /// # Errors
+    ///
+    /// `Full` exactly where the counter of spaces stands at its last value.
     pub fn fork<L: Ledger>(&self, tags: &mut Tags, steps: &mut Steps<L>) -> Result<Vfs<R>, TagFault>
         ensures space { IfOk result (λ v. v.held.space ≡ tags.old.next_space) }
         ensures version { IfOk result (λ v. version_of R.known v ≡ plain.forked v.held.space (version_of R.known self.now)) }

@@ -20,6 +20,7 @@ use ty_syntax::{
 /// A workspace, by its cleaned root.
 #[derive(Drop)]
 pub struct WorkspaceId {
+    /// The cleaned path of its folder.
     pub root: ImmutPath,
 }
 
