@@ -9,3 +9,4 @@ pub mod Workspace
 pub mod Under
 pub mod Access
 pub mod Deps
+pub mod Revising

@@ -7,6 +7,7 @@ ghost use Rattle.ty_model.specs.Version as plain;
 ghost use Rattle.ty_model.specs.Batch as change;
 ghost use Rattle.ty_model.specs.Paths as paths;
 ghost use Rattle.tinymist_vfs.specs.Items.{items_of, file_of, clean_text, clean_file, gathered};
+ghost use Rattle.tinymist_vfs.specs.Revising.{items_in, all_in, IsOver, AddsItems};
 ghost use Rattle.tinymist_vfs.specs.ChangeSet.{set_of};
 ghost use Rattle.ty_path.specs.Shared.{path_text};
 ghost use Rattle.tinymist_vfs.specs.Commits.{put_held, committed, is_full};
@@ -184,11 +185,9 @@ impl<'a, R, H: HoldsVfs<R>> RevisingVfs<'a, R, H> {
     }
 
     fn add(&mut self, item: Item) -> Result<(), OutOfMemory>
-        ensures same { self.new.holder.ghost_name ≡ self.old.holder.ghost_name }
-        ensures now { self.new.holder.now ≡ self.old.holder.now }
-        ensures view { self.new.changes_view ≡ self.old.changes_view }
-        ensures ok { OnOk result (items_of self.new.batch.items ≡ items_of self.old.batch.items ++ items_of (item ∷ [])) }
-        ensures err { OnErr result (self.new.batch.items ≡ self.old.batch.items) }
+        ensures adds { AddsItems self.old self.new }
+        ensures ok { OnOk result (items_in self.new ≡ items_in self.old ++ items_of (item ∷ [])) }
+        ensures err { OnErr result (items_in self.new ≡ items_in self.old) }
     {
         self.batch.push(item)?;
         Ok(())
@@ -196,11 +195,9 @@ impl<'a, R, H: HoldsVfs<R>> RevisingVfs<'a, R, H> {
 
     /// Maps a path, cleaned, to what the file is to be.
     pub fn map_shadow(&mut self, path: &str, snap: FileSnapshot) -> Result<(), OutOfMemory>
-        ensures same { self.new.holder.ghost_name ≡ self.old.holder.ghost_name }
-        ensures now { self.new.holder.now ≡ self.old.holder.now }
-        ensures view { self.new.changes_view ≡ self.old.changes_view }
-        ensures ok { OnOk result (items_of self.new.batch.items ≡ items_of self.old.batch.items ++ change.MapPath (paths.clean path.now) snap ∷ []) }
-        ensures err { OnErr result (self.new.batch.items ≡ self.old.batch.items) }
+        ensures adds { AddsItems self.old self.new }
+        ensures ok { OnOk result (items_in self.new ≡ items_in self.old ++ change.MapPath (paths.clean path.now) snap ∷ []) }
+        ensures err { OnErr result (items_in self.new ≡ items_in self.old) }
     {
         let path = cleaned(self.alloc, path)?;
         self.add(Item::MapPath(path, snap))
@@ -208,11 +205,9 @@ impl<'a, R, H: HoldsVfs<R>> RevisingVfs<'a, R, H> {
 
     /// Takes a path, cleaned, out of the overlay, and stamps it as dropped, whether it was there or not.
     pub fn unmap_shadow(&mut self, path: &str) -> Result<(), OutOfMemory>
-        ensures same { self.new.holder.ghost_name ≡ self.old.holder.ghost_name }
-        ensures now { self.new.holder.now ≡ self.old.holder.now }
-        ensures view { self.new.changes_view ≡ self.old.changes_view }
-        ensures ok { OnOk result (items_of self.new.batch.items ≡ items_of self.old.batch.items ++ change.UnmapPath (paths.clean path.now) ∷ []) }
-        ensures err { OnErr result (self.new.batch.items ≡ self.old.batch.items) }
+        ensures adds { AddsItems self.old self.new }
+        ensures ok { OnOk result (items_in self.new ≡ items_in self.old ++ change.UnmapPath (paths.clean path.now) ∷ []) }
+        ensures err { OnErr result (items_in self.new ≡ items_in self.old) }
     {
         let path = cleaned(self.alloc, path)?;
         self.add(Item::UnmapPath(path))
@@ -220,11 +215,9 @@ impl<'a, R, H: HoldsVfs<R>> RevisingVfs<'a, R, H> {
 
     /// Maps an id to what the file is to be, whatever its path.
     pub fn map_shadow_by_id(&mut self, id: &FileId, snap: FileSnapshot) -> Result<(), OutOfMemory>
-        ensures same { self.new.holder.ghost_name ≡ self.old.holder.ghost_name }
-        ensures now { self.new.holder.now ≡ self.old.holder.now }
-        ensures view { self.new.changes_view ≡ self.old.changes_view }
-        ensures ok { OnOk result (items_of self.new.batch.items ≡ items_of self.old.batch.items ++ change.MapId id.now snap ∷ []) }
-        ensures err { OnErr result (self.new.batch.items ≡ self.old.batch.items) }
+        ensures adds { AddsItems self.old self.new }
+        ensures ok { OnOk result (items_in self.new ≡ items_in self.old ++ change.MapId id.now snap ∷ []) }
+        ensures err { OnErr result (items_in self.new ≡ items_in self.old) }
     {
         let id = id.share(self.alloc)?;
         self.add(Item::MapId(id, snap))
@@ -232,11 +225,9 @@ impl<'a, R, H: HoldsVfs<R>> RevisingVfs<'a, R, H> {
 
     /// Takes an id out of the overlay.
     pub fn remove_shadow_by_id(&mut self, id: &FileId) -> Result<(), OutOfMemory>
-        ensures same { self.new.holder.ghost_name ≡ self.old.holder.ghost_name }
-        ensures now { self.new.holder.now ≡ self.old.holder.now }
-        ensures view { self.new.changes_view ≡ self.old.changes_view }
-        ensures ok { OnOk result (items_of self.new.batch.items ≡ items_of self.old.batch.items ++ change.UnmapId id.now ∷ []) }
-        ensures err { OnErr result (self.new.batch.items ≡ self.old.batch.items) }
+        ensures adds { AddsItems self.old self.new }
+        ensures ok { OnOk result (items_in self.new ≡ items_in self.old ++ change.UnmapId id.now ∷ []) }
+        ensures err { OnErr result (items_in self.new ≡ items_in self.old) }
     {
         let id = id.share(self.alloc)?;
         self.add(Item::UnmapId(id))
@@ -244,11 +235,9 @@ impl<'a, R, H: HoldsVfs<R>> RevisingVfs<'a, R, H> {
 
     /// Empties both overlays, and stamps each path that was in its overlay as dropped.
     pub fn reset_shadow(&mut self) -> Result<(), OutOfMemory>
-        ensures same { self.new.holder.ghost_name ≡ self.old.holder.ghost_name }
-        ensures now { self.new.holder.now ≡ self.old.holder.now }
-        ensures view { self.new.changes_view ≡ self.old.changes_view }
-        ensures ok { OnOk result (items_of self.new.batch.items ≡ items_of self.old.batch.items ++ change.Clear ∷ []) }
-        ensures err { OnErr result (self.new.batch.items ≡ self.old.batch.items) }
+        ensures adds { AddsItems self.old self.new }
+        ensures ok { OnOk result (items_in self.new ≡ items_in self.old ++ change.Clear ∷ []) }
+        ensures err { OnErr result (items_in self.new ≡ items_in self.old) }
     {
         self.add(Item::Clear)
     }
@@ -256,11 +245,9 @@ impl<'a, R, H: HoldsVfs<R>> RevisingVfs<'a, R, H> {
     /// Takes the removed paths out of the told files and stamps them as dropped, and then tells the inserted
     /// files, of which the last of a path stands. All paths are cleaned.
     pub fn notify_fs_changes(&mut self, event: FileChangeSet) -> Result<(), OutOfMemory>
-        ensures same { self.new.holder.ghost_name ≡ self.old.holder.ghost_name }
-        ensures now { self.new.holder.now ≡ self.old.holder.now }
-        ensures view { self.new.changes_view ≡ self.old.changes_view }
-        ensures ok { OnOk result (items_of self.new.batch.items ≡ items_of self.old.batch.items ++ change.ChangeSet (map clean_text event.removes.items) (map clean_file event.inserts.items) ∷ []) }
-        ensures err { OnErr result (self.new.batch.items ≡ self.old.batch.items) }
+        ensures adds { AddsItems self.old self.new }
+        ensures ok { OnOk result (items_in self.new ≡ items_in self.old ++ change.ChangeSet (map clean_text event.removes.items) (map clean_file event.inserts.items) ∷ []) }
+        ensures err { OnErr result (items_in self.new ≡ items_in self.old) }
     {
         let removes = cleaned_paths(self.alloc, &event.removes)?;
         let inserts = cleaned_files(self.alloc, &event.inserts)?;
@@ -269,11 +256,9 @@ impl<'a, R, H: HoldsVfs<R>> RevisingVfs<'a, R, H> {
 
     /// Gathers the change set of an event, as `notify_fs_changes` does.
     pub fn notify_fs_event(&mut self, event: FilesystemEvent) -> Result<(), OutOfMemory>
-        ensures same { self.new.holder.ghost_name ≡ self.old.holder.ghost_name }
-        ensures now { self.new.holder.now ≡ self.old.holder.now }
-        ensures view { self.new.changes_view ≡ self.old.changes_view }
-        ensures ok { OnOk result (items_of self.new.batch.items ≡ items_of self.old.batch.items ++ change.ChangeSet (map clean_text (set_of event).removes.items) (map clean_file (set_of event).inserts.items) ∷ []) }
-        ensures err { OnErr result (self.new.batch.items ≡ self.old.batch.items) }
+        ensures adds { AddsItems self.old self.new }
+        ensures ok { OnOk result (items_in self.new ≡ items_in self.old ++ change.ChangeSet (map clean_text (set_of event).removes.items) (map clean_file (set_of event).inserts.items) ∷ []) }
+        ensures err { OnErr result (items_in self.new ≡ items_in self.old) }
     {
         let (set, _upstream) = event.split();
         self.notify_fs_changes(set)
@@ -281,10 +266,9 @@ impl<'a, R, H: HoldsVfs<R>> RevisingVfs<'a, R, H> {
 
     /// Raises the revision at the end of the batch, whether something differs or not. It takes no memory.
     pub fn change_view(&mut self)
-        ensures same { self.new.holder.ghost_name ≡ self.old.holder.ghost_name }
-        ensures now { self.new.holder.now ≡ self.old.holder.now }
-        ensures view { self.new.changes_view ≡ true }
-        ensures batch { self.new.batch.items ≡ self.old.batch.items }
+        ensures over { IsOver self.old self.new }
+        ensures view { all_in self.new ≡ items_in self.old ++ change.ChangeView ∷ [] }
+        ensures items { items_in self.new ≡ items_in self.old }
     {
         self.changes_view = true;
     }
@@ -298,14 +282,19 @@ impl<'a, R, H: HoldsVfs<R>> RevisingVfs<'a, R, H> {
     /// `Full` exactly where the revision would rise and stands at its last value; what holds the layers
     /// is then as before.
     pub fn finish(self) -> Result<u64, ReviseFault>
-        ensures ok { IfOk result (λ n. (self.exit.0.now ≡ H.with_held self.entry.holder.now (commit_held (H.kept self.entry.holder.now).held (gathered self.entry.batch.items self.entry.changes_view))) × (n ≡ (commit_held (H.kept self.entry.holder.now).held (gathered self.entry.batch.items self.entry.changes_view)).revision)) }
-        ensures kept { OnOk result (H.kept self.exit.0.now ≡ committed (H.kept self.entry.holder.now) (gathered self.entry.batch.items self.entry.changes_view)) }
-        ensures commit { IsCommit (H.kept self.entry.holder.now).held (gathered self.entry.batch.items self.entry.changes_view) (commit_held (H.kept self.entry.holder.now).held (gathered self.entry.batch.items self.entry.changes_view)) }
+        ensures ok { let old = self.entry.holder.now in
+            let after = commit_held (H.kept old).held (all_in self.entry) in
+            IfOk result (λ n. (self.exit.0.now ≡ H.with_held old after) × (n ≡ after.revision)) }
+        ensures kept { let old = H.kept self.entry.holder.now in
+            OnOk result (H.kept self.exit.0.now ≡ committed old (all_in self.entry)) }
+        ensures commit { let old = (H.kept self.entry.holder.now).held in
+            IsCommit old (all_in self.entry) (commit_held old (all_in self.entry)) }
         ensures err { OnErr result (self.exit.0.now ≡ self.entry.holder.now) }
-        ensures full { IsErrOf result ReviseFault.Full → is_full (H.kept self.entry.holder.now).held (gathered self.entry.batch.items self.entry.changes_view) }
-        ensures exact { is_full (H.kept self.entry.holder.now).held (gathered self.entry.batch.items self.entry.changes_view) → IsErr result }
-        ensures standing { (resolver : Resolver) (past : List plain.Version) → Stands (H.kept self.entry.holder.now).held resolver past
-            → Stands (commit_held (H.kept self.entry.holder.now).held (gathered self.entry.batch.items self.entry.changes_view)) resolver (past_after (H.kept self.entry.holder.now).held.space (version_with (H.kept self.entry.holder.now).held resolver) past (gathered self.entry.batch.items self.entry.changes_view)) }
+        ensures full { IsErrOf result ReviseFault.Full → is_full (H.kept self.entry.holder.now).held (all_in self.entry) }
+        ensures exact { is_full (H.kept self.entry.holder.now).held (all_in self.entry) → IsErr result }
+        ensures standing { let old = (H.kept self.entry.holder.now).held in
+            (resolver : Resolver) (past : List plain.Version) → Stands old resolver past
+            → Stands (commit_held old (all_in self.entry)) resolver (past_after old.space (version_with old resolver) past (all_in self.entry)) }
     {
         let RevisingVfs {
             holder,
