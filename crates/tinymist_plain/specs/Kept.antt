@@ -33,7 +33,7 @@ pub record Listed : Type 0 where
   pub reset : model.Stamp
   pub resolver : place.Resolver
 
--- layers and versions by the entries of their maps
+-- layers of the definition as lists: the entries of their maps
 abbrev pub lists_of : model.Layers → Lists
 lists_of l = record { by_id = finmap.entries l.by_id; by_path = finmap.entries l.by_path; told = finmap.entries l.told; drops = finmap.entries l.drops }
 
@@ -41,11 +41,11 @@ lists_of l = record { by_id = finmap.entries l.by_id; by_path = finmap.entries l
 abbrev pub listed : model.Version → Listed
 listed v = record { revision = v.revision; layers = lists_of v.layers; reset = v.reset; resolver = v.resolver }
 
--- what is kept of a version: no package is listed
+-- the layers that the plain program keeps of a version
 abbrev pub layers_of : Version → Lists
 layers_of v = record { by_id = id_pairs v.by_id.items; by_path = pairs v.by_path.items; told = pairs v.told.items; drops = pairs v.drops.items }
 
--- a version of the plain program as lists
+-- a version of the plain program as lists; no package is listed
 abbrev pub version_of : Version → Listed
 version_of v = record { revision = v.revision; layers = layers_of v; reset = v.reset; resolver = finmap.empty }
 

@@ -1,4 +1,5 @@
 //! Worked sessions, as the definition answers them over a disk without files.
+ghost use Rattle.std.specs.Prelude.{◌≡◌, [], codes};
 ghost use Rattle.tinymist_plain.specs.Worked.{IsWorked};
 
 /// An input, and the replies to it under the default limits over a disk without files. Each of its lines is good.

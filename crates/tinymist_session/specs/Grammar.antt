@@ -98,7 +98,7 @@ removing path = record { removes = path ∷ []; inserts = [] }
 abbrev pub telling : List ℕ → Answer → Changes
 telling path answer = record { removes = []; inserts = (path, answer) ∷ [] }
 
--- - and a path
+-- a minus sign and a path
 abbrev pub removal_of : List ℕ → Option Changes
 removal_of word = option_map removing (option_and_then path_of (after_sign 45 word))
 
@@ -107,7 +107,7 @@ abbrev pub told_of : Option (List ℕ) → Option ContentWord → Option Changes
 told_of (Some path) (Some content) = Some (telling path (answer_at path content))
 told_of path content = None
 
--- + and a path, and then its content
+-- a plus sign and a path, and then its content
 abbrev pub file_of : List ℕ → List ℕ → Option Changes
 file_of word content = told_of (option_and_then path_of (after_sign 43 word)) (content_of content)
 
@@ -149,7 +149,7 @@ abbrev pub clean_of : Option ℕ → Option ℕ → Option (List IdWord) → Opt
 clean_of (Some target) (Some revision) (Some ids) = Some (Clean target revision ids)
 clean_of target revision ids = None
 
--- the one, where there is one; both, where there are two; all three, where there are three
+-- the field, where there is one
 abbrev pub one_of : List (List ℕ) → Option (List ℕ)
 one_of (a ∷ []) = Some a
 one_of fields = None

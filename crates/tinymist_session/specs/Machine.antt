@@ -157,7 +157,7 @@ abbrev pub listed : (Space → Reply) → Option Space → Reply
 listed reply None = BadView
 listed reply (Some space) = reply space
 
--- the paths of an overlay, ascending, and its ids
+-- the paths of an overlay, ascending
 abbrev pub path_list : Space → Reply
 path_list space = PathList (map.keys space.now.layers.by_path)
 

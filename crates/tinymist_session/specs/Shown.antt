@@ -7,13 +7,14 @@ use Rattle.ty_model.specs.Held.{Kept, version_of, Standing}
 use Rattle.ty_model.specs.Space.{Space}
 use Rattle.tinymist_vfs.specs.declared.resolver.MockRootResolver.{MockRootResolver}
 use Rattle.tinymist_session.specs.declared.tagged.TaggedIds.{TaggedIds}
+use Rattle.tinymist_session.specs.declared.machine.Machine.{Machine}
 use Rattle.tinymist_session.specs.Machine.{State}
 
 -- the packages of the session's resolver: none
 abbrev pub known : MockRootResolver → Resolver
 known resolver = finmap.empty
 
--- the number and the version that a value shows, and those of a space
+-- the number and the version that a value shows
 abbrev pub shown : Kept MockRootResolver → ℕ × Version
 shown k = (k.held.space, version_of known k)
 
@@ -53,6 +54,14 @@ pub record IsShown (live : Kept MockRootResolver) (views : List (Kept MockRootRe
   pub next : tags.counters.next_space ≡ s.next_space
   pub next_tag : tags.counters.next_id ≡ s.next_tag
   pub tagged : tags.ids.items ≡ s.tagged
+
+-- the machine shows the state
+abbrev pub MachineShows : Machine → State → Type 0
+MachineShows m s = IsShown m.live m.views.items m.tags s
+
+-- the greatest revision of all spaces of a machine
+abbrev pub top_of : Machine → ℕ
+top_of m = top_revision m.live m.views.items
 
 -- what is kept of view k, where 0 is none
 abbrev pub kept_at : List (Kept MockRootResolver) → ℕ → Option (Kept MockRootResolver)

@@ -30,7 +30,7 @@ with_option name o n =
     else if bytes_eq name (codes "--max-lines") then option_map (λ given. record o { max_lines = given }) (once o.max_lines n)
     else None
 
--- both, where there are both
+-- an option with its number before others, where both are good
 abbrev pub with_value : List ℕ → Option ℕ → Option Options → Option Options
 with_value name (Some n) (Some o) = with_option name o n
 with_value name value rest = None
@@ -41,7 +41,7 @@ options_of [] = Some (record { max_line = None; max_lines = None })
 options_of (name ∷ []) = None
 options_of (name ∷ value ∷ words) = with_value name (limit_of value) (options_of words)
 
--- what stands where an option isn't given
+-- the limits with these options, and the default where one isn't given
 abbrev pub limits_with : Options → Limits
 limits_with o = record { max_line = unwrap_or o.max_line 16777216; max_lines = unwrap_or o.max_lines 1000000 }
 

@@ -7,7 +7,7 @@ ghost use Rattle.tinymist_session.specs.Grammar.{answer_at};
 ghost use Rattle.tinymist_session.specs.Machine as plain;
 ghost use Rattle.tinymist_session.specs.Reply as plain_reply;
 ghost use Rattle.tinymist_session.specs.Said.{reply_of, command_of, edit_said, content_said, id_said};
-ghost use Rattle.tinymist_session.specs.Shown.{IsShown, kept_at, target_kept, top_revision, next_number};
+ghost use Rattle.tinymist_session.specs.Shown.{MachineShows, kept_at, target_kept, top_of, next_number};
 
 use crate::command::Command;
 use crate::content::{ContentWord, IdWord};
@@ -33,8 +33,8 @@ pub(crate) struct Machine {
 impl Machine {
     /// The state at the start: nothing in it, and no view.
     pub(crate) fn new(alloc: Global) -> Result<Machine, OutOfMemory>
-        ensures shown { IfOk result (λ m. IsShown m.live m.views.items m.tags plain.opening) }
-        ensures revision { IfOk result (λ m. top_revision m.live m.views.items ≡ 2) }
+        ensures shown { IfOk result (λ m. MachineShows m plain.opening) }
+        ensures revision { IfOk result (λ m. top_of m ≡ 2) }
         ensures number { IfOk result (λ m. next_number m.tags ≡ 3) }
     {
         let mut tags = TaggedIds::new(alloc)?;
@@ -56,12 +56,12 @@ impl Machine {
         disk: &mut M,
         command: Command,
     ) -> Result<Reply, OutOfMemory>
-        requires revision { top_revision self.old.live self.old.views.items < 2 ^ 64 - 1 }
+        requires revision { top_of self.old < 2 ^ 64 - 1 }
         requires number { next_number self.old.tags < 2 ^ 64 - 1 }
-        ensures reply { (told : Told) (s : plain.State) → M.told disk.old ≡ Some told → IsShown self.old.live self.old.views.items self.old.tags s → IfOk result (λ r. reply_of r ≡ (plain.step s told (command_of command)).reply) }
-        ensures state { (told : Told) (s : plain.State) → M.told disk.old ≡ Some told → IsShown self.old.live self.old.views.items self.old.tags s → OnOk result (IsShown self.new.live self.new.views.items self.new.tags (plain.step s told (command_of command)).state) }
+        ensures reply { (told : Told) (s : plain.State) → M.told disk.old ≡ Some told → MachineShows self.old s → IfOk result (λ r. reply_of r ≡ (plain.step s told (command_of command)).reply) }
+        ensures state { (told : Told) (s : plain.State) → M.told disk.old ≡ Some told → MachineShows self.old s → OnOk result (MachineShows self.new (plain.step s told (command_of command)).state) }
         ensures left { (told : Told) → M.told disk.old ≡ Some told → IsFixed told → M.told disk.new ≡ Some told }
-        ensures revision { top_revision self.new.live self.new.views.items ≤ top_revision self.old.live self.old.views.items + 1 }
+        ensures revision { top_of self.new ≤ top_of self.old + 1 }
         ensures number { next_number self.new.tags ≤ next_number self.old.tags + 1 }
     {
         match command {
@@ -88,10 +88,10 @@ impl Machine {
 
     /// Edits a target, and answers its revision.
     fn edit_target(&mut self, target: u64, edit: Edit) -> Result<Reply, OutOfMemory>
-        requires { top_revision self.old.live self.old.views.items < 2 ^ 64 - 1 }
-        ensures reply { (s : plain.State) → IsShown self.old.live self.old.views.items self.old.tags s → IfOk result (λ r. reply_of r ≡ (plain.edit_step s target (edit_said edit)).reply) }
-        ensures state { (s : plain.State) → IsShown self.old.live self.old.views.items self.old.tags s → OnOk result (IsShown self.new.live self.new.views.items self.new.tags (plain.edit_step s target (edit_said edit)).state) }
-        ensures revision { top_revision self.new.live self.new.views.items ≤ top_revision self.old.live self.old.views.items + 1 }
+        requires { top_of self.old < 2 ^ 64 - 1 }
+        ensures reply { (s : plain.State) → MachineShows self.old s → IfOk result (λ r. reply_of r ≡ (plain.edit_step s target (edit_said edit)).reply) }
+        ensures state { (s : plain.State) → MachineShows self.old s → OnOk result (MachineShows self.new (plain.edit_step s target (edit_said edit)).state) }
+        ensures revision { top_of self.new ≤ top_of self.old + 1 }
         ensures tags { self.new.tags ≡ self.old.tags }
     {
         if target == 0 {
@@ -113,10 +113,10 @@ impl Machine {
         word: &IdWord,
         content: ContentWord,
     ) -> Result<Reply, OutOfMemory>
-        requires { top_revision self.old.live self.old.views.items < 2 ^ 64 - 1 }
-        ensures reply { (s : plain.State) → IsShown self.old.live self.old.views.items self.old.tags s → IfOk result (λ r. reply_of r ≡ (plain.id_edit_step s target (id_said word.now) (λ id. batch.MapId id (answer_at id.vpath (content_said content)))).reply) }
-        ensures state { (s : plain.State) → IsShown self.old.live self.old.views.items self.old.tags s → OnOk result (IsShown self.new.live self.new.views.items self.new.tags (plain.id_edit_step s target (id_said word.now) (λ id. batch.MapId id (answer_at id.vpath (content_said content)))).state) }
-        ensures revision { top_revision self.new.live self.new.views.items ≤ top_revision self.old.live self.old.views.items + 1 }
+        requires { top_of self.old < 2 ^ 64 - 1 }
+        ensures reply { (s : plain.State) → MachineShows self.old s → IfOk result (λ r. reply_of r ≡ (plain.id_edit_step s target (id_said word.now) (λ id. batch.MapId id (answer_at id.vpath (content_said content)))).reply) }
+        ensures state { (s : plain.State) → MachineShows self.old s → OnOk result (MachineShows self.new (plain.id_edit_step s target (id_said word.now) (λ id. batch.MapId id (answer_at id.vpath (content_said content)))).state) }
+        ensures revision { top_of self.new ≤ top_of self.old + 1 }
         ensures tags { self.new.tags ≡ self.old.tags }
     {
         let Some(_) = self.space(target) else {
@@ -131,10 +131,10 @@ impl Machine {
 
     /// Takes an id out of a target's overlay, and answers its revision.
     fn unmap_id(&mut self, target: u64, word: &IdWord) -> Result<Reply, OutOfMemory>
-        requires { top_revision self.old.live self.old.views.items < 2 ^ 64 - 1 }
-        ensures reply { (s : plain.State) → IsShown self.old.live self.old.views.items self.old.tags s → IfOk result (λ r. reply_of r ≡ (plain.id_edit_step s target (id_said word.now) batch.UnmapId).reply) }
-        ensures state { (s : plain.State) → IsShown self.old.live self.old.views.items self.old.tags s → OnOk result (IsShown self.new.live self.new.views.items self.new.tags (plain.id_edit_step s target (id_said word.now) batch.UnmapId).state) }
-        ensures revision { top_revision self.new.live self.new.views.items ≤ top_revision self.old.live self.old.views.items + 1 }
+        requires { top_of self.old < 2 ^ 64 - 1 }
+        ensures reply { (s : plain.State) → MachineShows self.old s → IfOk result (λ r. reply_of r ≡ (plain.id_edit_step s target (id_said word.now) batch.UnmapId).reply) }
+        ensures state { (s : plain.State) → MachineShows self.old s → OnOk result (MachineShows self.new (plain.id_edit_step s target (id_said word.now) batch.UnmapId).state) }
+        ensures revision { top_of self.new ≤ top_of self.old + 1 }
         ensures tags { self.new.tags ≡ self.old.tags }
     {
         let Some(_) = self.space(target) else {
@@ -149,9 +149,9 @@ impl Machine {
     /// Takes a snapshot of the live state, and answers its number.
     fn take_snapshot(&mut self) -> Result<usize, OutOfMemory>
         requires { self.old.tags.counters.next_space < 2 ^ 64 - 1 }
-        ensures reply { (s : plain.State) → IsShown self.old.live self.old.views.items self.old.tags s → IfOk result (λ n. plain_reply.ViewNumber n ≡ (plain.snapshot_step s).reply) }
-        ensures state { (s : plain.State) → IsShown self.old.live self.old.views.items self.old.tags s → OnOk result (IsShown self.new.live self.new.views.items self.new.tags (plain.snapshot_step s).state) }
-        ensures revision { top_revision self.new.live self.new.views.items ≤ top_revision self.old.live self.old.views.items }
+        ensures reply { (s : plain.State) → MachineShows self.old s → IfOk result (λ n. plain_reply.ViewNumber n ≡ (plain.snapshot_step s).reply) }
+        ensures state { (s : plain.State) → MachineShows self.old s → OnOk result (MachineShows self.new (plain.snapshot_step s).state) }
+        ensures revision { top_of self.new ≤ top_of self.old }
         ensures number { next_number self.new.tags ≤ next_number self.old.tags + 1 }
     {
         match snapshot_of(&self.live, &mut self.tags.counters) {

@@ -5,7 +5,7 @@ ghost use Rattle.ty_model.specs.Disk.{Told, IsFixed};
 ghost use Rattle.tinymist_session.specs.Machine as plain;
 ghost use Rattle.tinymist_session.specs.Reply.{text_reply, line_reply};
 ghost use Rattle.tinymist_session.specs.Said.{reply_of, id_said};
-ghost use Rattle.tinymist_session.specs.Shown.{IsShown};
+ghost use Rattle.tinymist_session.specs.Shown.{MachineShows};
 
 use crate::content::IdWord;
 use crate::machine::Machine;
@@ -23,7 +23,7 @@ impl Machine {
         view: u64,
         word: &IdWord,
     ) -> Result<Reply, OutOfMemory>
-        ensures reply { (told : Told) (s : plain.State) → M.told disk.old ≡ Some told → IsShown self.now.live self.now.views.items self.now.tags s → IfOk result (λ r. reply_of r ≡ (plain.read_step s told view (id_said word.now)).reply) }
+        ensures reply { (told : Told) (s : plain.State) → M.told disk.old ≡ Some told → MachineShows self.now s → IfOk result (λ r. reply_of r ≡ (plain.read_step s told view (id_said word.now)).reply) }
         ensures left { (told : Told) → M.told disk.old ≡ Some told → IsFixed told → M.told disk.new ≡ Some told }
     {
         let Some(vfs) = self.view(view) else {
@@ -42,7 +42,7 @@ impl Machine {
         view: u64,
         word: &IdWord,
     ) -> Result<Reply, OutOfMemory>
-        ensures reply { (told : Told) (s : plain.State) → M.told disk.old ≡ Some told → IsShown self.now.live self.now.views.items self.now.tags s → IfOk result (λ r. reply_of r ≡ (plain.source_step s told view (id_said word.now) text_reply).reply) }
+        ensures reply { (told : Told) (s : plain.State) → M.told disk.old ≡ Some told → MachineShows self.now s → IfOk result (λ r. reply_of r ≡ (plain.source_step s told view (id_said word.now) text_reply).reply) }
         ensures left { (told : Told) → M.told disk.old ≡ Some told → IsFixed told → M.told disk.new ≡ Some told }
     {
         let Some(vfs) = self.view(view) else {
@@ -66,7 +66,7 @@ impl Machine {
         word: &IdWord,
         offset: u64,
     ) -> Result<Reply, OutOfMemory>
-        ensures reply { (told : Told) (s : plain.State) → M.told disk.old ≡ Some told → IsShown self.now.live self.now.views.items self.now.tags s → IfOk result (λ r. reply_of r ≡ (plain.source_step s told view (id_said word.now) (line_reply offset)).reply) }
+        ensures reply { (told : Told) (s : plain.State) → M.told disk.old ≡ Some told → MachineShows self.now s → IfOk result (λ r. reply_of r ≡ (plain.source_step s told view (id_said word.now) (line_reply offset)).reply) }
         ensures left { (told : Told) → M.told disk.old ≡ Some told → IsFixed told → M.told disk.new ≡ Some told }
     {
         let Some(vfs) = self.view(view) else {
@@ -84,7 +84,7 @@ impl Machine {
 
     /// The paths of a target's overlay.
     pub(crate) fn list_paths(&self, target: u64) -> Result<Reply, OutOfMemory>
-        ensures { (s : plain.State) → IsShown self.now.live self.now.views.items self.now.tags s → IfOk result (λ r. reply_of r ≡ plain.listed plain.path_list (plain.space_at s target)) }
+        ensures { (s : plain.State) → MachineShows self.now s → IfOk result (λ r. reply_of r ≡ plain.listed plain.path_list (plain.space_at s target)) }
     {
         match self.space(target) {
             Some(vfs) => Ok(Reply::PathList(vfs.shadow_paths()?)),
@@ -94,7 +94,7 @@ impl Machine {
 
     /// The ids of a target's overlay.
     pub(crate) fn list_ids(&self, target: u64) -> Result<Reply, OutOfMemory>
-        ensures { (s : plain.State) → IsShown self.now.live self.now.views.items self.now.tags s → IfOk result (λ r. reply_of r ≡ plain.listed plain.id_list (plain.space_at s target)) }
+        ensures { (s : plain.State) → MachineShows self.now s → IfOk result (λ r. reply_of r ≡ plain.listed plain.id_list (plain.space_at s target)) }
     {
         match self.space(target) {
             Some(vfs) => Ok(Reply::IdList(vfs.shadow_ids()?)),
@@ -104,7 +104,7 @@ impl Machine {
 
     /// Finds where an id stands in a target.
     pub(crate) fn path_in(&self, target: u64, word: &IdWord) -> Result<Reply, OutOfMemory>
-        ensures { (s : plain.State) → IsShown self.now.live self.now.views.items self.now.tags s → IfOk result (λ r. reply_of r ≡ (plain.path_step s target (id_said word.now)).reply) }
+        ensures { (s : plain.State) → MachineShows self.now s → IfOk result (λ r. reply_of r ≡ (plain.path_step s target (id_said word.now)).reply) }
     {
         let Some(space) = self.space(target) else {
             return Ok(Reply::BadView);
@@ -122,7 +122,7 @@ impl Machine {
         revision: u64,
         words: &[IdWord],
     ) -> Result<Reply, OutOfMemory>
-        ensures { (s : plain.State) → IsShown self.now.live self.now.views.items self.now.tags s → IfOk result (λ r. reply_of r ≡ (plain.clean_step s target revision (map id_said words.now)).reply) }
+        ensures { (s : plain.State) → MachineShows self.now s → IfOk result (λ r. reply_of r ≡ (plain.clean_step s target revision (map id_said words.now)).reply) }
     {
         let Some(vfs) = self.space(target) else {
             return Ok(Reply::BadView);

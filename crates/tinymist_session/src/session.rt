@@ -10,7 +10,7 @@ ghost use Rattle.tinymist_session.specs.Grammar.{command_of};
 ghost use Rattle.tinymist_session.specs.Machine.{State, step, opening, LeavesOthers};
 ghost use Rattle.tinymist_session.specs.Session.{end_of, replies_to};
 ghost use Rattle.tinymist_session.specs.Session as plain;
-ghost use Rattle.tinymist_session.specs.Shown.{IsShown, top_revision, next_number};
+ghost use Rattle.tinymist_session.specs.Shown.{MachineShows, top_of, next_number};
 ghost use Rattle.tinymist_session.specs.Run.{EndFits, Written, UnlessCutOff, Received, replies_received, TakenWithin, most_bytes};
 ghost use Rattle.tinymist_session.specs.Turns.{TurnReads, TurnSays, PassEnds, PassSays, Broken, ends, replies, limits_of};
 
@@ -22,21 +22,27 @@ use crate::reply::line_of;
 use crate::sink::{ByteSink, FlushStep, write_all};
 use crate::source::LineSource;
 use std::alloc::{AllocError, Global};
+use thiserror::Error;
 use ty_cells::PathAccessModel;
 use ty_path::OutOfMemory;
 
 /// Why a session ended before its input did, or after input that is no session.
-#[derive(Clone, Copy, Debug, PartialEq, Eq)]
+#[derive(Clone, Copy, Debug, PartialEq, Eq, Error)]
 pub enum SessionFault {
     /// The source failed.
+    #[error("read fault")]
     ReadFault,
     /// The sink failed, or took nothing of a piece that isn't empty.
+    #[error("write fault")]
     WriteFault,
     /// The line of this number, from 1 on, is too long or is no sentence.
+    #[error("bad line {0}")]
     BadLine(u64),
     /// There are more lines than the limit.
+    #[error("too many lines")]
     Full,
     /// No memory was left.
+    #[error("out of memory")]
     OutOfMemory,
 }
 
@@ -70,8 +76,8 @@ struct Session {
 
 impl Session {
     fn new(alloc: Global) -> Result<Session, OutOfMemory>
-        ensures shown { IfOk result (λ s. IsShown s.machine.live s.machine.views.items s.machine.tags opening) }
-        ensures revision { IfOk result (λ s. top_revision s.machine.live s.machine.views.items ≡ 2) }
+        ensures shown { IfOk result (λ s. MachineShows s.machine opening) }
+        ensures revision { IfOk result (λ s. top_of s.machine ≡ 2) }
         ensures number { IfOk result (λ s. next_number s.machine.tags ≡ 3) }
         ensures held { IfOk result (λ s. held_of s.reader ≡ []) }
     {
@@ -89,15 +95,15 @@ impl Session {
         disk: &mut M,
         number: u64,
     ) -> Result<(), SessionFault>
-        requires revision { top_revision self.old.machine.live self.old.machine.views.items < 2 ^ 63 }
+        requires revision { top_of self.old.machine < 2 ^ 63 }
         requires number { next_number self.old.machine.tags < 2 ^ 63 }
         ensures reads { TurnReads (command_of (line_of self.old.reader)) number result }
         ensures quiet { command_of (line_of self.old.reader) ≡ None → W.taken sink.new ≡ W.taken sink.old }
-        ensures says { (told : Told) (s : State) (command : Command) → M.told disk.old ≡ Some told → IsShown self.old.machine.live self.old.machine.views.items self.old.machine.tags s
+        ensures says { (told : Told) (s : State) (command : Command) → M.told disk.old ≡ Some told → MachineShows self.old.machine s
             → command_of (line_of self.old.reader) ≡ Some command → TurnSays (step s told command) (W.taken sink.old) (W.taken sink.new) self.new.machine.live self.new.machine.views.items self.new.machine.tags result }
         ensures left { (told : Told) → M.told disk.old ≡ Some told → IsFixed told → M.told disk.new ≡ Some told }
         ensures reader { self.new.reader ≡ self.old.reader }
-        ensures revision { top_revision self.new.machine.live self.new.machine.views.items ≤ top_revision self.old.machine.live self.old.machine.views.items + 1 }
+        ensures revision { top_of self.new.machine ≤ top_of self.old.machine + 1 }
         ensures number { next_number self.new.machine.tags ≤ next_number self.old.machine.tags + 1 }
         ensures faults { W.faults sink.old ≤ W.faults sink.new }
         ensures dry { W.dry sink.old ≤ W.dry sink.new }
@@ -125,17 +131,17 @@ impl Session {
         n: u32,
     ) -> Result<bool, SessionFault>
         requires room { n < limits.max_lines }
-        requires revision { top_revision self.old.machine.live self.old.machine.views.items < 2 ^ 63 }
+        requires revision { top_of self.old.machine < 2 ^ 63 }
         requires number { next_number self.old.machine.tags < 2 ^ 63 }
         ensures ends { (rest : List ℕ) → ahead self.old.reader (S.left source.old) ≡ Some rest → PassEnds (limits_of limits) n rest (ahead self.new.reader (S.left source.new)) result }
-        ensures says { (rest : List ℕ) (told : Told) (s : State) → ahead self.old.reader (S.left source.old) ≡ Some rest → M.told disk.old ≡ Some told → IsShown self.old.machine.live self.old.machine.views.items self.old.machine.tags s
+        ensures says { (rest : List ℕ) (told : Told) (s : State) → ahead self.old.reader (S.left source.old) ≡ Some rest → M.told disk.old ≡ Some told → MachineShows self.old.machine s
             → PassSays (limits_of limits) told s n rest (ahead self.new.reader (S.left source.new)) (W.taken sink.old) (W.taken sink.new) self.new.machine.live self.new.machine.views.items self.new.machine.tags result }
         ensures received { (rest : List ℕ) → ahead self.old.reader (S.left source.old) ≡ Some rest → IsErrOf result SessionFault.ReadFault → Broken (limits_of limits) rest (S.left source.new) }
         ensures quiet { IsErrOf result SessionFault.ReadFault → W.taken sink.new ≡ W.taken sink.old }
         ensures bounded { (rest : List ℕ) → ahead self.old.reader (S.left source.old) ≡ Some rest → TakenWithin (limits.max_line + 65536) rest (S.left source.new) }
         ensures left { (told : Told) → M.told disk.old ≡ Some told → IsFixed told → M.told disk.new ≡ Some told }
         ensures at_end { result ≡ Ok false → IsAtEnd (ahead self.new.reader (S.left source.new)) }
-        ensures revision { top_revision self.new.machine.live self.new.machine.views.items ≤ top_revision self.old.machine.live self.old.machine.views.items + 1 }
+        ensures revision { top_of self.new.machine ≤ top_of self.old.machine + 1 }
         ensures number { next_number self.new.machine.tags ≤ next_number self.old.machine.tags + 1 }
         ensures read_cause { HasCause (IsErrOf result SessionFault.ReadFault) (S.faults source.old) (S.faults source.new) }
         ensures faults { W.faults sink.old ≤ W.faults sink.new }
@@ -193,8 +199,8 @@ impl Session {
         disk: &mut M,
         limits: Limits,
     ) -> Result<(), SessionFault>
-        requires shown { IsShown self.old.machine.live self.old.machine.views.items self.old.machine.tags opening }
-        requires revision { top_revision self.old.machine.live self.old.machine.views.items ≡ 2 }
+        requires shown { MachineShows self.old.machine opening }
+        requires revision { top_of self.old.machine ≡ 2 }
         requires number { next_number self.old.machine.tags ≡ 3 }
         requires held { held_of self.old.reader ≡ [] }
         ensures ends { (input : List ℕ) → S.left source.old ≡ Some input → EndFits (end_of (limits_of limits) input) result }

@@ -10,7 +10,7 @@ ghost use Rattle.ty_model.specs.Standing.{are_clean};
 ghost use Rattle.ty_model.specs.Version.{Version};
 ghost use Rattle.ty_syntax.specs.Lines.{place};
 ghost use Rattle.tinymist_vfs.specs.Commits.{committed};
-ghost use Rattle.tinymist_vfs.specs.Items.{items_of};
+ghost use Rattle.tinymist_vfs.specs.Revising.{items_in, AddsItems};
 ghost use Rattle.tinymist_session.specs.Machine.{source_at, clean_reply};
 ghost use Rattle.tinymist_session.specs.Reply.{reply_to, place_reply, at_reply};
 ghost use Rattle.tinymist_session.specs.Said.{reply_of, edit_said, GivesSource};
@@ -53,11 +53,9 @@ fn commit(vfs: &mut Vfs<MockRootResolver>, edit: Edit) -> Result<u64, ReviseFaul
 
 /// Gathers an edit.
 fn gather(batch: &mut RevisingVfs<'_, MockRootResolver>, edit: Edit) -> Result<(), OutOfMemory>
-    ensures same { batch.new.holder.ghost_name ≡ batch.old.holder.ghost_name }
-    ensures now { batch.new.holder.now ≡ batch.old.holder.now }
-    ensures view { batch.new.changes_view ≡ batch.old.changes_view }
-    ensures ok { OnOk result (items_of batch.new.batch.items ≡ items_of batch.old.batch.items ++ edit_said edit ∷ []) }
-    ensures err { OnErr result (batch.new.batch.items ≡ batch.old.batch.items) }
+    ensures adds { AddsItems batch.old batch.new }
+    ensures ok { OnOk result (items_in batch.new ≡ items_in batch.old ++ edit_said edit ∷ []) }
+    ensures err { OnErr result (items_in batch.new ≡ items_in batch.old) }
 {
     match edit {
         Edit::MapPath(path, answer) => batch.map_shadow(path.as_str(), answer),

@@ -111,6 +111,20 @@ impl<W: Write + Drop> StdSink<W> {
     }
 }
 
+/// Writes, and writes again where that was interrupted.
+fn write_again<W: Write>(inner: &mut W, piece: &[u8]) -> io::Result<usize>
+    ensures { IfOk result (λ n. n ≤ length piece.now) }
+{
+    for _ in 0..u64::MAX {
+        match inner.write(piece) {
+            Ok(n) => return Ok(n),
+            Err(error) if error.kind() == ErrorKind::Interrupted => {}
+            Err(error) => return Err(error),
+        }
+    }
+    Err(io::Error::from(ErrorKind::Interrupted))
+}
+
 impl<W: Write + Drop> ByteSink for StdSink<W> {
     ghost taken = { λ _. None };
 
@@ -121,7 +135,7 @@ impl<W: Write + Drop> ByteSink for StdSink<W> {
     ghost flushed = { λ s. s.flushed };
 
     fn write(&mut self, piece: &[u8]) -> WriteStep {
-        match self.inner.write(piece) {
+        match write_again(&mut self.inner, piece) {
             Ok(n) => {
                 if n > 0 {
                     self.flushed = false;
