@@ -14,7 +14,8 @@ pub struct WorkedSession {
 /// No line.
 #[tactic(auto, using(crate::proofs::Replies::no_lines))]
 pub fn no_line() -> WorkedSession
-    ensures { IsWorked result.input.now result.replies.now }
+    ensures input { result.input.now ≡ [] }
+    ensures worked { IsWorked result.input.now result.replies.now }
 {
     WorkedSession {
         input: "",
@@ -24,7 +25,8 @@ pub fn no_line() -> WorkedSession
 
 /// A file that is mapped, and read in a snapshot by a last line without LF.
 pub fn map_and_read() -> WorkedSession
-    ensures { IsWorked result.input.now result.replies.now }
+    ensures input { result.input.now ≡ codes "map\t0\t/w/a.typ\t=6869\nsnapshot\nread\t1\t/w/a.typ" }
+    ensures worked { IsWorked result.input.now result.replies.now }
 {
     WorkedSession {
         input: "map\t0\t/w/a.typ\t=6869\nsnapshot\nread\t1\t/w/a.typ",
@@ -34,7 +36,8 @@ pub fn map_and_read() -> WorkedSession
 
 /// Two views of a file with an edit between, and a view that there isn't.
 pub fn two_views() -> WorkedSession
-    ensures { IsWorked result.input.now result.replies.now }
+    ensures input { result.input.now ≡ codes "map\t0\t/w/a.typ\t=6f6c64\nsnapshot\nmap\t0\t/w/a.typ\t=6e6577\nsnapshot\nread\t1\t/w/a.typ\nread\t2\t/w/a.typ\nread\t3\t/w/a.typ\n" }
+    ensures worked { IsWorked result.input.now result.replies.now }
 {
     WorkedSession {
         input: "map\t0\t/w/a.typ\t=6f6c64\nsnapshot\nmap\t0\t/w/a.typ\t=6e6577\nsnapshot\nread\t1\t/w/a.typ\nread\t2\t/w/a.typ\nread\t3\t/w/a.typ\n",

@@ -1,5 +1,5 @@
 use Rattle.tinymist_plain.proofs.Replies as worked
 use Rattle.tinymist_plain.proofs.rows.two_views.Goals as goal
 
-pub returns : goal.returns
-returns c = worked.two_views
+pub returns-clause-worked : goal.returns-clause-worked
+returns-clause-worked c = worked.two_views
