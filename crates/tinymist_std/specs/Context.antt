@@ -1,5 +1,5 @@
 -- What an error is given by the calls that make one: a kind from a text or from another error, and arguments.
-use Rattle.std.specs.Prelude.{◌≡◌, ℕ, Bool, true, false, List, [], ◌∷◌, Option, None, IfSome, Vec, String}
+use Rattle.std.specs.Prelude.{◌≡◌, ℕ, Bool, true, false, List, [], ◌∷◌, Option, None, IfSome, Vec, String, codes}
 use Rattle.std.specs.Option.{option_map}
 use Rattle.std.specs.Borrow.{Bor}
 use Rattle.std.specs.declared.alloc.Global.{Global}
@@ -51,6 +51,14 @@ pub record IsMet (place : List ℕ) (kind : Kind → Type 0) (given : Option Arg
 -- an error of a call that refuses: memory ran out, or nothing is said beside these arguments and the reason holds
 abbrev pub IsRefusal : List ℕ → Option Arguments → Type 0 → Failure → Type 0
 IsRefusal call given why = IsMet call (λ k. UnlessMemory k ((k ≡ plain untold) × why)) (λ a. a ≡ given)
+
+-- an error of a call that says nothing but that memory ran out
+abbrev pub IsWantOfMemory : List ℕ → Failure → Type 0
+IsWantOfMemory call f = f ≡ record { place = call; arguments = None; kind = plain no_memory }
+
+-- the one argument that says why
+abbrev pub reason_alone : List ℕ → Arguments
+reason_alone reason = (codes "error", reason) ∷ []
 
 -- named arguments as code has them
 abbrev pub ArgumentList : Type 0

@@ -1,5 +1,7 @@
 -- Fingerprints as two halves of 64 bits, and their texts.
 use Rattle.std.specs.Prelude.{◌≡◌, ℕ, zero, suc, ◌+◌, ◌*◌, ◌/◌, ◌%◌, ◌^◌, ◌<◌, List, [], ◌∷◌, ◌++◌, replicate}
+use Rattle.std.specs.Ordering.{nat_cmp, ordering_then}
+use Rattle.std.specs.declared.cmp.Ordering.{Ordering}
 use Rattle.std.specs.Int.{w64, to_le_bytes}
 use Rattle.base64.specs.Engines.{standard_no_pad}
 use Rattle.base64.specs.GeneralPurpose.{encode_of}
@@ -8,6 +10,10 @@ use Rattle.base64.specs.GeneralPurpose.{encode_of}
 pub record Halves : Type 0 where
   pub low : ℕ
   pub high : ℕ
+
+-- ordered by the low half, and then by the high half
+abbrev pub halves_cmp : Halves → Halves → Ordering
+halves_cmp a b = ordering_then (nat_cmp a.low b.low) (nat_cmp a.high b.high)
 
 -- the number that the halves make
 abbrev pub number_of : Halves → ℕ

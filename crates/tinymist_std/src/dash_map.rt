@@ -51,7 +51,7 @@ impl<K: Eq + Hash + Drop, V: Drop> FxDashMap<K, V> {
     }
 
     /// The part of the key.
-    fn shard(&self, k: &K) -> &RwLock<HashMap<K, V>> {
+    pub(crate) fn shard(&self, k: &K) -> &RwLock<HashMap<K, V>> {
         part_of_key(self.shards.as_slice(), k)
     }
 }

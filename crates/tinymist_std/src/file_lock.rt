@@ -9,11 +9,13 @@ use crate::error::Result;
 use crate::paths::named;
 use std::alloc::Global;
 use std::fs::File;
+use std::io::ErrorKind;
 use std::path::Path;
 use std::rt::Files;
 use std::{fs, io};
 
-/// An open file that holds a lock, which it gives up when it is dropped.
+/// An open file that holds a lock, which is given up when it and every clone of its handle is
+/// dropped.
 #[derive(Drop)]
 pub struct FileLock {
     file: File,
@@ -53,7 +55,8 @@ impl FileLock {
         }
     }
 
-    /// Removes all that the file's folder holds beside it.
+    /// Removes all that the file's folder holds beside it. Where the path has no parent or no name,
+    /// this is refused, and nothing is removed.
     pub fn remove_siblings<R: Files>(&self, rt: &R) -> Result<()>
         ensures { IfErr result (IsFileFault (codes "remove_siblings") (lock_path self.now)) }
     {
@@ -68,11 +71,11 @@ impl FileLock {
     }
 }
 
-/// Removes all that the folder of the path holds beside it.
+/// Removes all that the folder of the path holds beside its name, where it has both.
 fn remove_beside<R: Files>(rt: &R, alloc: Global, path: &str) -> io::Result<()> {
     let place = Path::new(path);
-    let Some(folder) = place.parent() else {
-        return Ok(());
+    let (Some(folder), Some(name)) = (place.parent(), place.file_name()) else {
+        return Err(io::Error::from(ErrorKind::InvalidInput));
     };
     let folder = if folder.as_str().is_empty() {
         "."
@@ -81,7 +84,7 @@ fn remove_beside<R: Files>(rt: &R, alloc: Global, path: &str) -> io::Result<()> 
     };
     for entry in fs::read_dir(&(rt, alloc), folder)? {
         let entry = entry?;
-        if place.file_name() != Some(entry.file_name()) {
+        if entry.file_name() != name {
             remove(
                 rt,
                 alloc,

@@ -4,9 +4,9 @@ ghost use Rattle.tinymist_std.specs.FileLock.{lock_path};
 ghost use Rattle.tinymist_std.specs.Paths.{IsFileFault};
 ghost use Rattle.ty_model.specs.Paths as plain;
 
-use crate::error::{ErrKind, Error, Result};
+use crate::error::Result;
 use crate::file_lock::FileLock;
-use crate::paths::named;
+use crate::paths::{named, within_memory};
 use std::alloc::Global;
 use std::fs::{File, OpenOptions, TryLockError};
 use std::io::ErrorKind;
@@ -38,7 +38,7 @@ impl Filesystem {
         Filesystem { root }
     }
 
-    /// The folder of a path below this one.
+    /// The folder of a path below this one. An absolute path stands alone, as in `ty_path::join`.
     pub fn join(&self, other: &str) -> Result<Filesystem, OutOfMemory>
         ensures { IfOk result (λ folder. folder ≡ plain.join self.now other.now) }
     {
@@ -46,7 +46,7 @@ impl Filesystem {
         Ok(Filesystem { root })
     }
 
-    /// Goes to the folder of a path below this one.
+    /// Goes to the folder of a path below this one, or to that of an absolute path.
     pub fn push(&mut self, other: &str) -> Result<(), OutOfMemory>
         ensures ok { OnOk result (self.new ≡ plain.join self.old other.now) }
         ensures err { OnErr result (self.new ≡ self.old) }
@@ -83,7 +83,8 @@ impl Filesystem {
     }
 
     /// Opens a file of the folder to be read and written, and waits for the lock that no other
-    /// holder shares. A missing file is made. `msg` is not printed.
+    /// holder shares. A missing file is made, and the folder that it stands in. An absolute path
+    /// stands alone. `msg` is not printed.
     pub fn open_rw_exclusive_create<R: Files<File = File>>(
         &self,
         rt: &R,
@@ -112,8 +113,8 @@ impl Filesystem {
         self.try_acquire(rt, "try_open_rw_exclusive_create", path, Access::Write)
     }
 
-    /// Opens a file of the folder to be read, and waits for the lock that readers share. `msg` is
-    /// not printed.
+    /// Opens a file of the folder to be read, and waits for the lock that readers share. An absolute
+    /// path stands alone. `msg` is not printed.
     pub fn open_ro_shared<R: Files<File = File>>(
         &self,
         rt: &R,
@@ -127,7 +128,8 @@ impl Filesystem {
         self.acquire(rt, "open_ro_shared", path, Access::Read)
     }
 
-    /// As [`Filesystem::open_ro_shared`], but a missing file is made.
+    /// As [`Filesystem::open_ro_shared`], but a missing file is made, and the folder that it stands
+    /// in. Of a file that is there no permission to write is asked.
     pub fn open_ro_shared_create<R: Files<File = File>>(
         &self,
         rt: &R,
@@ -198,10 +200,7 @@ impl Filesystem {
         ensures err { IfErr result (IsFileFault call.now (plain.join self.now path.now)) }
         ensures path { IfOk result (λ place. string_bytes place ≡ plain.join self.now path.now) }
     {
-        match join(self.alloc(), self.root.as_str(), path) {
-            Ok(place) => Ok(place),
-            Err(_) => Err(Error::new(call, ErrKind::OutOfMemory, None)),
-        }
+        within_memory(call, join(self.alloc(), self.root.as_str(), path))
     }
 
     fn alloc(&self) -> Global {
@@ -225,13 +224,8 @@ impl Access {
         !matches!(self, Access::Read)
     }
 
-    fn options(self) -> OpenOptions {
-        let mut options = OpenOptions::new();
-        options
-            .read(true)
-            .write(self.creates())
-            .create(self.creates());
-        options
+    fn writes(self) -> bool {
+        matches!(self, Access::Write)
     }
 
     fn lock(self, file: &File) -> io::Result<()> {
@@ -269,13 +263,14 @@ fn open_and_try_lock<R: Files<File = File>>(
     }
 }
 
-/// The file. Where it may be made and its folder is missing, that is made first.
+/// The file. Where it is missing and may be made, it is, after its folder.
 fn open<R: Files<File = File>>(rt: &R, path: &str, access: Access) -> io::Result<File> {
-    let options = access.options();
+    let mut options = OpenOptions::new();
+    options.read(true).write(access.writes());
     match options.open(rt, path) {
         Err(cause) if access.creates() && cause.kind() == ErrorKind::NotFound => {
             create_folder_of(rt, path)?;
-            options.open(rt, path)
+            options.write(true).create(true).open(rt, path)
         }
         opened => opened,
     }

@@ -3,6 +3,7 @@ ghost use Rattle.std.specs.Prelude.{◌≡◌, ◌%◌, ◌^◌, ◌<◌, ◌++�
 ghost use Rattle.std.specs.Borrow.{Array, Lends, sem};
 ghost use Rattle.std.specs.Int.{IsNextPowerOfTwo};
 ghost use Rattle.std.specs.List.Sorted.{IsSortedByKey};
+ghost use Rattle.tinymist_std.specs.Fingerprint.{halves_cmp};
 
 use crate::fingerprint::Fingerprint;
 use crate::parts::part_of;
@@ -66,7 +67,7 @@ impl<V: Drop> FingerprintMap<V> {
     /// The entries, which ascend by the fingerprint's low half, and then by its high half.
     pub fn into_items(self, alloc: Global) -> Result<Vec<(Fingerprint, V)>, OutOfMemory>
         ensures { IfOk result (λ items.
-            IsSortedByKey (λ item. item.0) ⟦<Fingerprint as Ord>⟧.cmp items.items) }
+            IsSortedByKey (λ item. item.0) halves_cmp items.items) }
     {
         let mut items = Vec::new(alloc);
         for shard in self.shards {
@@ -98,7 +99,7 @@ fn append_part<V: Drop>(
 /// Puts the items in the order of their fingerprints.
 fn sort_items<V>(items: &mut Vec<(Fingerprint, V)>)
     ensures all { IsPermutation items.old.items items.new.items }
-    ensures sorted { IsSortedByKey (λ item. item.0) ⟦<Fingerprint as Ord>⟧.cmp items.new.items }
+    ensures sorted { IsSortedByKey (λ item. item.0) halves_cmp items.new.items }
 {
     items.sort_unstable_by_key(|item| item.0);
 }

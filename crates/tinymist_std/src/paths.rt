@@ -1,10 +1,10 @@
 //! Files and folders of the system by their paths, with errors that name the call and the path.
 //!
 //! What a file holds is not proved: these are thin edges over the library's files.
-ghost use Rattle.std.specs.Prelude.{◌≡◌, false, None, Some, Ok, IsOkAnd, IfOk, IfErr, IsTrue, MatchResult, codes, string_bytes};
+ghost use Rattle.std.specs.Prelude.{◌≡◌, false, Some, Ok, IsOkAnd, IfOk, IfErr, IsTrue, MatchResult, codes, string_bytes};
 ghost use Rattle.std.specs.Option.{option_copied};
 ghost use Rattle.std.specs.Str.{IsUtf8};
-ghost use Rattle.tinymist_std.specs.Context.{IsRefusal};
+ghost use Rattle.tinymist_std.specs.Context.{IsRefusal, IsWantOfMemory, reason_alone};
 ghost use Rattle.tinymist_std.specs.PathAncestors.{path_next, path_stop};
 ghost use Rattle.tinymist_std.specs.Paths.{IsFileFault, any_has_colon, joined_paths, separator_arguments};
 
@@ -24,7 +24,7 @@ pub use reading::{metadata, open, read, read_bytes};
 pub use writing::{append, copy, create, write, write_atomic, write_if_changed};
 
 /// The paths as one text for an environment variable, with `:` between. The error, which names the
-/// variable, comes where a path has a `:`.
+/// variable, comes where a path has a `:`, and else only where memory runs out.
 pub fn join_paths<R>(_rt: &R, alloc: Global, paths: &[String], env: &str) -> Result<String>
     ensures joined { IfOk result (λ text. string_bytes text ≡ joined_paths paths.now) }
     ensures apart { IfOk result (λ _. any_has_colon paths.now ≡ false) }
@@ -39,10 +39,7 @@ pub fn join_paths<R>(_rt: &R, alloc: Global, paths: &[String], env: &str) -> Res
                 .error("join_paths"),
         );
     }
-    match paths.join(alloc, ":") {
-        Ok(joined) => Ok(joined),
-        Err(_) => Err(Error::new("join_paths", ErrKind::OutOfMemory, None)),
-    }
+    within_memory("join_paths", paths.join(alloc, ":"))
 }
 
 /// Whether a path has a `:`.
@@ -59,19 +56,22 @@ pub fn path2bytes<'p, R>(_rt: &R, path: &'p str) -> Result<&'p [u8]>
     Ok(path.as_bytes())
 }
 
-/// The path of the bytes. The error comes exactly where they aren't UTF-8.
+/// The path of the bytes. The error comes where they aren't UTF-8, which it says, and else only
+/// where memory runs out.
 pub fn bytes2path<R>(_rt: &R, alloc: Global, bytes: &[u8]) -> Result<String>
     ensures path { IfOk result (λ path. string_bytes path ≡ bytes.now) }
     ensures refused { IfErr result
-        (IsRefusal (codes "bytes2path") None (¬ (IsUtf8 bytes.now))) }
+        (IsRefusal (codes "bytes2path") (Some (reason_alone (codes "the path is not UTF-8")))
+        (¬ (IsUtf8 bytes.now))) }
 {
     let Ok(text) = str::from_utf8(bytes) else {
-        return Err(Error::new("bytes2path", ErrKind::None, None));
+        return Err(
+            ErrorArgs::new(alloc)
+                .with(alloc, "error", &"the path is not UTF-8")
+                .error("bytes2path"),
+        );
     };
-    match String::from_str(alloc, text) {
-        Ok(path) => Ok(path),
-        Err(_) => Err(Error::new("bytes2path", ErrKind::OutOfMemory, None)),
-    }
+    within_memory("bytes2path", String::from_str(alloc, text))
 }
 
 /// The path and then its parents, up to `stop` where it is one of them, and else to the end.
@@ -80,6 +80,19 @@ pub fn ancestors<'p>(path: &'p str, stop: Option<&'p str>) -> PathAncestors<'p>
     ensures stop { path_stop result ≡ option_copied stop.entry }
 {
     PathAncestors::new(path, stop)
+}
+
+/// The result, whose error says that memory ran out at the call.
+pub(crate) fn within_memory<T, E: Drop>(
+    call: &'static str,
+    answer: std::result::Result<T, E>,
+) -> Result<T>
+    ensures { MatchResult result (λ value. answer ≡ Ok value) (IsWantOfMemory call.now) }
+{
+    match answer {
+        Ok(value) => Ok(value),
+        Err(_) => Err(Error::new(call, ErrKind::OutOfMemory, None)),
+    }
 }
 
 /// The result, whose error names the call and the path.

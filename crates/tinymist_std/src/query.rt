@@ -5,14 +5,19 @@ ghost use Rattle.tinymist_std.specs.Query.{Tells};
 
 use once_cell::race::OnceBox;
 use std::alloc::Global;
+use std::fmt::Display;
+use thiserror::Error;
 use ty_path::OutOfMemory;
 
 /// Why a query gave no value.
-#[derive(Clone, Copy, Debug, PartialEq, Eq)]
+#[derive(Clone, Copy, Debug, PartialEq, Eq, Error)]
+#[error_bound(E: Display)]
 pub enum QueryFault<'a, E> {
     /// The query failed with this error, which stays.
+    #[error("{0}")]
     Query(&'a E),
     /// Memory ran out, and nothing is kept.
+    #[error("out of memory")]
     OutOfMemory,
 }
 

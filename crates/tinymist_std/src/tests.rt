@@ -2,6 +2,7 @@
 mod files;
 mod fingerprints;
 mod queries;
+mod replacing;
 mod values;
 
 use crate::*;

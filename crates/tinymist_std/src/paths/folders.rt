@@ -45,8 +45,8 @@ pub fn remove_file<R: Files>(rt: &R, alloc: Global, path: &str) -> Result<()>
     named(alloc, "remove_file", path, fs::remove_file(rt, path))
 }
 
-/// What `f` answers for a new folder in that of the path, which is removed afterwards. An empty path
-/// is the folder in which the program runs.
+/// What `f` answers for a new folder in that of the path, which is removed afterwards; a removal
+/// that fails is passed over. An empty path is the folder in which the program runs.
 pub fn temp_dir_in<R: Files, T, E: Into<Error>, G: FnOnce(&str) -> Result<T, E> + Drop>(
     rt: &R,
     alloc: Global,
@@ -73,10 +73,24 @@ pub fn temp_dir_in<R: Files, T, E: Into<Error>, G: FnOnce(&str) -> Result<T, E> 
 fn create_in<R: Files>(rt: &R, alloc: Global, path: &str) -> io::Result<String>
     ensures { IfOk result (λ folder. StandsIn path.now (string_bytes folder)) }
 {
+    let (folder, ()) = first_free(alloc, path, |folder| fs::create_dir(rt, folder))?;
+    Ok(folder)
+}
+
+/// The first of the numbered paths in the folder at which nothing stands yet, and what `make` made
+/// there.
+pub(super) fn first_free<T, F: Fn(&str) -> io::Result<T> + Drop>(
+    alloc: Global,
+    folder: &str,
+    make: F,
+) -> io::Result<(String, T)>
+    requires { F.IsAlwaysCallable make }
+    ensures { IfOk result (λ made. StandsIn folder.now (string_bytes made.0)) }
+{
     for number in 0..u32::MAX {
-        let folder = numbered_in(alloc, path, number)?;
-        match fs::create_dir(rt, folder.as_str()) {
-            Ok(()) => return Ok(folder),
+        let path = numbered_in(alloc, folder, number)?;
+        match make(path.as_str()) {
+            Ok(made) => return Ok((path, made)),
             Err(cause) if cause.kind() == ErrorKind::AlreadyExists => {}
             Err(cause) => return Err(cause),
         }
@@ -84,18 +98,18 @@ fn create_in<R: Files>(rt: &R, alloc: Global, path: &str) -> io::Result<String>
     Err(io::Error::from(ErrorKind::AlreadyExists))
 }
 
-/// The path of the numbered folder in that of the path.
-fn numbered_in(alloc: Global, path: &str, number: u32) -> Result<String, AllocError>
-    ensures { IfOk result (λ folder. StandsIn path.now (string_bytes folder)) }
+/// The numbered path in the folder.
+fn numbered_in(alloc: Global, folder: &str, number: u32) -> Result<String, AllocError>
+    ensures { IfOk result (λ path. StandsIn folder.now (string_bytes path)) }
 {
     let name = numbered(alloc, number)?;
-    match join(alloc, path, name.as_str()) {
-        Ok(folder) => Ok(folder),
+    match join(alloc, folder, name.as_str()) {
+        Ok(path) => Ok(path),
         Err(_) => Err(AllocError),
     }
 }
 
-/// The name of the numbered folder.
+/// The name of that number.
 #[tactic(auto, using(crate::proofs::TemporaryNames::numbered_name))]
 fn numbered(alloc: Global, number: u32) -> Result<String, AllocError>
     ensures { IfOk result (λ name. IsTrue (is_name (string_bytes name))) }

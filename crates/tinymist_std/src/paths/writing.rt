@@ -3,10 +3,12 @@ ghost use Rattle.std.specs.Prelude.{◌≡◌, IfErr, codes};
 ghost use Rattle.tinymist_std.specs.Paths.{IsFileFault};
 
 use crate::error::Result;
+use crate::paths::folders::first_free;
 use crate::paths::named;
 use std::alloc::Global;
 use std::fs::{File, OpenFile, OpenOptions};
-use std::io::{ErrorKind, Read, Seek, SeekFrom, Write};
+use std::io::{ErrorKind, Write};
+use std::path::Path;
 use std::rt::Files;
 use std::{fs, io};
 
@@ -25,7 +27,8 @@ pub fn write<R: Files>(rt: &R, alloc: Global, path: &str, contents: &[u8]) -> Re
 }
 
 /// As [`write`], by a new file that takes the path's name once it is written: who reads meanwhile
-/// finds the old content or the new one. The permissions are those of a new file.
+/// finds the old content or the new one. The permissions of a file that stands there are kept. A
+/// link is replaced by a file, and other hard links keep the old content.
 pub fn write_atomic<R: Files>(rt: &R, alloc: Global, path: &str, contents: &[u8]) -> Result<()>
     ensures { IfErr result (IsFileFault (codes "write_atomic") path.now) }
 {
@@ -37,7 +40,7 @@ pub fn write_atomic<R: Files>(rt: &R, alloc: Global, path: &str, contents: &[u8]
     )
 }
 
-/// As [`write`], but a file that holds these bytes already is not touched.
+/// As [`write`], but a file that holds these bytes already is only read.
 pub fn write_if_changed<R: Files>(rt: &R, alloc: Global, path: &str, contents: &[u8]) -> Result<()>
     ensures { IfErr result (IsFileFault (codes "write_if_changed") path.now) }
 {
@@ -57,7 +60,8 @@ pub fn append<R: Files>(rt: &R, alloc: Global, path: &str, contents: &[u8]) -> R
 }
 
 /// Copies a file's content and permissions, and answers the count of bytes. The error names the
-/// file that was to be copied.
+/// file that was to be copied, even where the other path is at fault. A file that is copied onto
+/// itself loses its content.
 pub fn copy<R: Files>(rt: &R, alloc: Global, from: &str, to: &str) -> Result<u64>
     ensures { IfErr result (IsFileFault (codes "copy") from.now) }
 {
@@ -71,19 +75,13 @@ fn extend<R: Files>(rt: &R, path: &str, contents: &[u8]) -> io::Result<()> {
     options.open(rt, path)?.write_all(contents)
 }
 
-/// Makes the file hold the bytes, and touches it only where it held others.
+/// Makes the file hold the bytes, and writes it only where it is missing or holds others.
 fn update<R: Files>(rt: &R, alloc: Global, path: &str, contents: &[u8]) -> io::Result<()> {
-    let mut options = OpenOptions::new();
-    options.read(true).write(true).create(true);
-    let mut file = options.open(rt, path)?;
-    let mut kept = Vec::new(alloc);
-    file.read_to_end(&mut kept)?;
-    if kept.as_slice() == contents {
-        return Ok(());
+    match fs::read(&(rt, alloc), path) {
+        Ok(kept) if kept.as_slice() == contents => Ok(()),
+        Err(cause) if cause.kind() != ErrorKind::NotFound => Err(cause),
+        _ => fs::write(rt, path, contents),
     }
-    file.set_len(0)?;
-    file.seek(SeekFrom::Start(0))?;
-    file.write_all(contents)
 }
 
 /// Writes a new file beside the path, and gives it the path's name. Where that fails, the new file
@@ -99,7 +97,7 @@ fn replace<R: Files>(rt: &R, alloc: Global, path: &str, contents: &[u8]) -> io::
     }
 }
 
-/// Fills the new file, and renames it.
+/// Gives the new file the permissions of the one that stands at the path, fills it and renames it.
 fn fill<R: Files>(
     rt: &R,
     mut file: R::File,
@@ -107,6 +105,9 @@ fn fill<R: Files>(
     path: &str,
     contents: &[u8],
 ) -> io::Result<()> {
+    if let Ok(there) = fs::metadata(rt, path) {
+        file.set_permissions(there.permissions())?;
+    }
     file.write_all(contents)?;
     file.sync_all()?;
     fs::rename(rt, beside, path)
@@ -114,13 +115,12 @@ fn fill<R: Files>(
 
 /// A new file in the folder of the path, and its path.
 fn create_beside<R: Files>(rt: &R, alloc: Global, path: &str) -> io::Result<(String, R::File)> {
-    for number in 0..u32::MAX {
-        let beside = format!(in alloc; "{path}.{number}.tmp")?;
-        match File::create_new(rt, beside.as_str()) {
-            Ok(file) => return Ok((beside, file)),
-            Err(cause) if cause.kind() == ErrorKind::AlreadyExists => {}
-            Err(cause) => return Err(cause),
-        }
-    }
-    Err(io::Error::from(ErrorKind::AlreadyExists))
+    let Some(folder) = Path::new(path).parent() else {
+        return Err(io::Error::from(ErrorKind::InvalidInput));
+    };
+    first_free(
+        alloc,
+        folder.as_str(),
+        |beside| File::create_new(rt, beside),
+    )
 }

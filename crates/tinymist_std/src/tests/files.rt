@@ -1,24 +1,22 @@
 //! Files of the system: each call once, in a folder of the test's own that is removed at its end.
-use crate::paths::*;
+use crate::paths::{within_memory, *};
 use crate::*;
 use std::alloc::Global;
-use std::env;
-use std::fs::{File, FileTimes, OpenOptions};
+use std::fs::{File, FileTimes, OpenOptions, Permissions};
 use std::io::{Read, Write};
+use std::os::unix::fs::PermissionsExt;
 use std::process::Abort;
 use std::rt::Files;
 use std::test::Fail;
 use std::time::{Duration, SystemTime, UNIX_EPOCH};
+use std::{env, fs};
 
 /// The path of a name below a folder.
-fn below(alloc: Global, folder: &str, name: &str) -> crate::Result<String> {
-    match ty_path::join(alloc, folder, name) {
-        Ok(path) => Ok(path),
-        Err(_) => Err(Error::new("below", ErrKind::OutOfMemory, None)),
-    }
+pub(super) fn below(alloc: Global, folder: &str, name: &str) -> crate::Result<String> {
+    within_memory("below", ty_path::join(alloc, folder, name))
 }
 
-fn expect_text<R: Files + Abort>(
+pub(super) fn expect_text<R: Files + Abort>(
     rt: &R,
     alloc: Global,
     path: &str,
@@ -29,17 +27,35 @@ fn expect_text<R: Files + Abort>(
     Ok(())
 }
 
+/// The permission bits of a file.
+pub(super) fn mode<R: Files>(rt: &R, alloc: Global, path: &str) -> crate::Result<u32> {
+    Ok(metadata(rt, alloc, path)?.permissions().mode() & 0o777)
+}
+
+pub(super) fn set_mode<R: Files>(
+    rt: &R,
+    alloc: Global,
+    path: &str,
+    mode: u32,
+) -> crate::Result<()> {
+    fs::set_permissions(rt, path, Permissions::from_mode(mode)).context_ut(alloc, "set_mode")
+}
+
 fn write_and_read<R: Files + Abort>(rt: &R, alloc: Global, folder: &str) -> crate::Result<()> {
     let file = below(alloc, folder, "a")?;
     let file = file.as_str();
+    append(rt, alloc, file, b"made")?;
+    expect_text(rt, alloc, file, "made")?;
     write(rt, alloc, file, b"one")?;
     append(rt, alloc, file, b" two")?;
     expect_text(rt, alloc, file, "one two")?;
     let bytes = read_bytes(rt, alloc, file)?;
     assert_eq!(rt; bytes.as_slice(), b"one two".as_slice());
     let other = below(alloc, folder, "b")?;
+    set_mode(rt, alloc, file, 0o640)?;
     assert_eq!(rt; copy(rt, alloc, file, other.as_str())?, 7);
     expect_text(rt, alloc, other.as_str(), "one two")?;
+    assert_eq!(rt; mode(rt, alloc, other.as_str())?, 0o640);
     assert_eq!(rt; metadata(rt, alloc, file)?.len(), 7);
     let mut made = create(rt, alloc, file)?;
     assert!(rt; made.write_all(b"new").is_ok());
@@ -94,36 +110,33 @@ fn folders_are_made_and_removed(rt: HostRuntime) -> Result<(), Fail> {
     Ok(())
 }
 
-/// Who opened the file before reads the old content, whole; a folder is not replaced by a file, and
-/// no file is left beside it.
-fn replace_whole<R: Files + Abort>(rt: &R, alloc: Global, folder: &str) -> crate::Result<()> {
-    let file = below(alloc, folder, "a")?;
-    let file = file.as_str();
-    write_atomic(rt, alloc, file, b"old content")?;
-    let mut before = open(rt, alloc, file)?;
-    write_atomic(rt, alloc, file, b"new")?;
-    let mut text = Vec::new(alloc);
-    assert!(rt; before.read_to_end(&mut text).is_ok());
-    assert_eq!(rt; text.as_slice(), b"old content".as_slice());
-    expect_text(rt, alloc, file, "new")?;
-    let taken = below(alloc, folder, "b/c")?;
-    create_dir_all(rt, alloc, taken.as_str())?;
-    assert!(rt; write_atomic(rt, alloc, taken.as_str(), b"x").is_err());
-    remove_dir(rt, alloc, taken.as_str())?;
-    remove_dir(rt, alloc, below(alloc, folder, "b")?.as_str())
+/// Makes a file in the folder, and then fails with an error that names the folder.
+fn make_and_fail<R: Files + Abort>(rt: &R, alloc: Global, folder: &str) -> crate::Result<()> {
+    write(rt, alloc, below(alloc, folder, "a")?.as_str(), b"x")?;
+    Err(
+        ErrorArgs::new(alloc)
+            .with(alloc, "folder", &folder)
+            .error("make_and_fail"),
+    )
 }
 
 #[test]
-fn atomic_writes_leave_old_or_new(rt: HostRuntime) -> Result<(), Fail> {
+fn folders_of_failures_are_gone(rt: HostRuntime) -> Result<(), Fail> {
     let alloc = rt.alloc();
     let rt = &rt;
     let base = env::temp_dir(rt)?;
-    temp_dir_in(
+    let answer = temp_dir_in(
         rt,
         alloc,
         base.as_str(),
-        move |folder| replace_whole(rt, alloc, folder),
-    )?;
+        move |folder| make_and_fail(rt, alloc, folder),
+    );
+    let error = answer.err().ok_or("no error")?;
+    assert_eq!(rt; error.loc(), "make_and_fail");
+    match error.arguments() {
+        [("folder", folder)] => assert!(rt; metadata(rt, alloc, folder.as_str()).is_err()),
+        _ => panic!(rt; "other arguments"),
+    }
     Ok(())
 }
 
@@ -173,6 +186,7 @@ fn equal_files_are_not_touched(rt: HostRuntime) -> Result<(), Fail> {
     Ok(())
 }
 
+/// A lock is refused while another is held, and keeps what the file holds.
 fn hold_locks<R: Files<File = File> + Abort>(
     rt: &R,
     alloc: Global,
@@ -190,6 +204,25 @@ fn hold_locks<R: Files<File = File> + Abort>(
     assert!(rt; files.try_open_rw_exclusive_create(rt, "sub/a")?.is_none());
     assert!(rt; files.try_open_ro_shared_create(rt, "sub/a")?.is_none());
     drop(held);
+    let again = files
+        .try_open_rw_exclusive_create(rt, "sub/a")?
+        .context(alloc, "again")?;
+    let mut text = Vec::new(alloc);
+    assert!(rt; again.file().read_to_end(&mut text).is_ok());
+    assert_eq!(rt; text.as_slice(), b"x".as_slice());
+    drop(again);
+    assert!(rt; files.try_open_rw_exclusive_create(rt, "new/a")?.is_some());
+    assert!(rt; files.try_open_ro_shared_create(rt, "new/b")?.is_some());
+    share_locks(rt, alloc, folder, &files)
+}
+
+/// Readers share a lock; the files beside a locked one are removed, and only where it has a name.
+fn share_locks<R: Files<File = File> + Abort>(
+    rt: &R,
+    alloc: Global,
+    folder: &str,
+    files: &Filesystem,
+) -> crate::Result<()> {
     let shared = files.open_ro_shared(rt, "sub/a", "waits")?;
     let also = files.try_open_ro_shared_create(rt, "sub/a")?;
     assert!(rt; also.is_some());
@@ -206,6 +239,17 @@ fn hold_locks<R: Files<File = File> + Abort>(
         b"",
     )?;
     create_dir_all(rt, alloc, below(alloc, folder, "locks/sub/d/e")?.as_str())?;
+    let nameless = FileLock::new(
+        open(rt, alloc, shared.path())?,
+        below(alloc, folder, "locks/sub/..")?,
+    );
+    expect_named(
+        rt,
+        nameless.remove_siblings(rt),
+        "remove_siblings",
+        nameless.path(),
+    );
+    assert!(rt; metadata(rt, alloc, other.path()).is_ok());
     shared.remove_siblings(rt)?;
     assert!(rt; metadata(rt, alloc, shared.path()).is_ok());
     assert!(rt; metadata(rt, alloc, other.path()).is_err());
@@ -276,6 +320,11 @@ fn fail_at<R: Files<File = File> + Abort>(
     expect_named(rt, open(rt, alloc, path), "open", path);
     expect_named(rt, metadata(rt, alloc, path), "metadata", path);
     expect_named(rt, copy(rt, alloc, path, folder), "copy", path);
+    let bytes = below(alloc, folder, "bytes")?;
+    let bytes = bytes.as_str();
+    write(rt, alloc, bytes, b"\xff")?;
+    expect_named(rt, read(rt, alloc, bytes), "read", bytes);
+    expect_named(rt, copy(rt, alloc, bytes, path), "copy", bytes);
     expect_named(rt, remove_dir_all(rt, alloc, path), "remove_dir_all", path);
     expect_named(rt, remove_dir(rt, alloc, path), "remove_dir", path);
     expect_named(rt, remove_file(rt, alloc, path), "remove_file", path);
@@ -327,8 +376,14 @@ fn paths_are_bytes_and_lists(rt: HostRuntime) -> Result<(), Fail> {
     let alloc = rt.alloc();
     assert_eq!(rt; path2bytes(&rt, "/é")?, b"/\xc3\xa9".as_slice());
     assert_eq!(rt; bytes2path(&rt, alloc, b"/\xc3\xa9")?.as_str(), "/é");
-    let refused = bytes2path(&rt, alloc, b"/\xc3");
-    assert_eq!(rt; refused.err().ok_or("no error")?.loc(), "bytes2path");
+    let refused = bytes2path(&rt, alloc, b"/\xc3")
+        .err()
+        .ok_or("no error")?
+        .to_string(alloc)?;
+    assert_eq!(rt;
+        refused.as_str(),
+        "bytes2path, with [(\"error\", \"the path is not UTF-8\")]"
+    );
     let paths = vec![in alloc;
         String::from_str(alloc, "/a")?,
         String::from_str(alloc, "b")?,

@@ -34,3 +34,13 @@ fn queries_of_a_value_run_nothing(rt: HostRuntime) -> Result<(), Fail> {
     assert!(rt; matches!(query.get_uninitialized(&mut note), Some(Ok(7))));
     Ok(())
 }
+
+#[test]
+fn query_faults_have_texts(rt: HostRuntime) -> Result<(), Fail> {
+    let alloc = rt.alloc();
+    let text = QueryFault::Query(&"first").to_string(alloc)?;
+    assert_eq!(rt; text.as_str(), "first");
+    let text = QueryFault::<u8>::OutOfMemory.to_string(alloc)?;
+    assert_eq!(rt; text.as_str(), "out of memory");
+    Ok(())
+}

@@ -13,8 +13,14 @@ fn bytes_have_texts(rt: HostRuntime) -> Result<(), Fail> {
     assert_eq!(rt; text.as_str(), "AAE=");
     let bytes = AsCowBytes::from_text(alloc, "AAE=")?;
     assert_eq!(rt; bytes.as_slice(), [0u8, 1].as_slice());
-    let refused = AsCowBytes::from_text(alloc, "AAE");
-    assert_eq!(rt; refused.err().ok_or("no error")?.loc(), "from_text");
+    let refused = AsCowBytes::from_text(alloc, "AAE")
+        .err()
+        .ok_or("no error")?
+        .to_string(alloc)?;
+    assert_eq!(rt;
+        refused.as_str(),
+        "from_text, with [(\"error\", \"the text is not base64\")]"
+    );
     Ok(())
 }
 
@@ -129,6 +135,21 @@ fn dash_maps_keep_their_keys_apart(rt: HostRuntime) -> Result<(), Fail> {
     }
     for key in 10..20u64 {
         assert_eq!(rt; map.insert(&rt, key, key)?, Some(100 + key));
+    }
+    Ok(())
+}
+
+#[test]
+fn dash_maps_keep_keys_where_their_hash_says(rt: HostRuntime) -> Result<(), Fail> {
+    let map: FxDashMap<u64, u64> = FxDashMap::new(rt.alloc(), 5)?;
+    for key in 0..20u64 {
+        let _absent = map.insert(&rt, key, key)?;
+        assert!(rt; map.shard(&key).read(&rt).contains_key(&key));
+    }
+    assert!(rt; map.shard(&0).read(&rt).len() < 20);
+    for key in 0..20u64 {
+        assert_eq!(rt; map.remove(&rt, &key), Some(key));
+        assert!(rt; !map.shard(&key).read(&rt).contains_key(&key));
     }
     Ok(())
 }
