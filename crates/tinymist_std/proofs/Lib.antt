@@ -4,3 +4,4 @@ mod Zeros
 mod HalfTexts
 mod FingerprintTexts
 mod TemporaryNames
+mod PaddedNumbers

@@ -1,11 +1,10 @@
 -- Days as text.
-use Rattle.std.specs.Prelude.{ℕ, ◌-◌, ◌^◌, false, List, [], ◌++◌, ℤ, if◌then◌else◌, codes, decimal, unsigned_abs}
+use Rattle.std.specs.Prelude.{ℕ, ◌-◌, List, [], ◌++◌, ℤ, if◌then◌else◌, codes, decimal, length, replicate, unsigned_abs}
 use Rattle.std.specs.Int.{is_negative}
-use Rattle.std.specs.Fmt.{format_spec, padded_integral}
 
 -- a number in decimal, with zeros before it up to a width
 abbrev pub zero_padded : ℕ → ℕ → List ℕ
-zero_padded width n = padded_integral (format_spec 32 0 4 width (2 ^ 64 - 1)) false [] (decimal n)
+zero_padded width n = replicate (width - length (decimal n)) 48 ++ decimal n
 
 -- a day as YYYY-MM-DD, with a further `-` before a year below 0
 abbrev pub date_text : ℤ → ℕ → ℕ → List ℕ

@@ -29,6 +29,7 @@ impl ToUtcDateTime for i64 {
 }
 
 /// The day as `YYYY-MM-DD`, with a further `-` before a year below 0.
+#[tactic(auto, using(crate::proofs::PaddedNumbers::padded_is_zero_padded))]
 pub fn yyyy_mm_dd(alloc: Global, date: Date) -> Result<String, OutOfMemory>
     ensures { IfOk result (λ text. string_bytes text ≡ date_text date.year date.month date.day) }
 {

@@ -164,8 +164,10 @@ fn write_twice<R: Files<File = File> + Abort>(
         .open(rt, file)
         .context_ut(alloc, "opened")?;
     opened.set_times(times).context_ut(alloc, "set_times")?;
+    set_mode(rt, alloc, file, 0o444)?;
     write_if_changed(rt, alloc, file, b"content")?;
     assert!(rt; written_at(rt, alloc, file)? == past);
+    set_mode(rt, alloc, file, 0o644)?;
     write_if_changed(rt, alloc, file, b"other")?;
     assert!(rt; written_at(rt, alloc, file)? != past);
     expect_text(rt, alloc, file, "other")?;
@@ -216,7 +218,7 @@ fn hold_locks<R: Files<File = File> + Abort>(
     share_locks(rt, alloc, folder, &files)
 }
 
-/// Readers share a lock; the files beside a locked one are removed, and only where it has a name.
+/// Readers share a lock, and need no leave to write.
 fn share_locks<R: Files<File = File> + Abort>(
     rt: &R,
     alloc: Global,
@@ -224,14 +226,27 @@ fn share_locks<R: Files<File = File> + Abort>(
     files: &Filesystem,
 ) -> crate::Result<()> {
     let shared = files.open_ro_shared(rt, "sub/a", "waits")?;
+    set_mode(rt, alloc, shared.path(), 0o444)?;
     let also = files.try_open_ro_shared_create(rt, "sub/a")?;
     assert!(rt; also.is_some());
+    set_mode(rt, alloc, shared.path(), 0o644)?;
     assert!(rt; files.try_open_rw_exclusive_create(rt, "sub/a")?.is_none());
     let other = files.open_ro_shared_create(rt, "sub/b", "waits")?;
     let again = files.open_ro_shared_create(rt, "sub/b", "waits")?;
     assert!(rt; files.try_open_rw_exclusive_create(rt, "sub/b")?.is_none());
     drop(again);
     assert!(rt; files.try_open_rw_exclusive_create(rt, "sub/b")?.is_none());
+    clear_beside(rt, alloc, folder, &shared, other.path())
+}
+
+/// What stands beside a locked file is removed, but nothing where its path has no name.
+fn clear_beside<R: Files<File = File> + Abort>(
+    rt: &R,
+    alloc: Global,
+    folder: &str,
+    shared: &FileLock,
+    other: &str,
+) -> crate::Result<()> {
     write(
         rt,
         alloc,
@@ -249,10 +264,10 @@ fn share_locks<R: Files<File = File> + Abort>(
         "remove_siblings",
         nameless.path(),
     );
-    assert!(rt; metadata(rt, alloc, other.path()).is_ok());
+    assert!(rt; metadata(rt, alloc, other).is_ok());
     shared.remove_siblings(rt)?;
     assert!(rt; metadata(rt, alloc, shared.path()).is_ok());
-    assert!(rt; metadata(rt, alloc, other.path()).is_err());
+    assert!(rt; metadata(rt, alloc, other).is_err());
     remove_file(rt, alloc, shared.path())?;
     remove_dir(rt, alloc, below(alloc, folder, "locks/sub")?.as_str())
 }
@@ -293,7 +308,8 @@ fn expect_named<T>(rt: &impl Abort, answer: crate::Result<T>, call: &str, path: 
     }
 }
 
-fn fail_at<R: Files<File = File> + Abort>(
+/// Each call on a file that is missing or isn't text.
+fn fail_at_files<R: Files<File = File> + Abort>(
     rt: &R,
     alloc: Global,
     folder: &str,
@@ -325,6 +341,17 @@ fn fail_at<R: Files<File = File> + Abort>(
     write(rt, alloc, bytes, b"\xff")?;
     expect_named(rt, read(rt, alloc, bytes), "read", bytes);
     expect_named(rt, copy(rt, alloc, bytes, path), "copy", bytes);
+    remove_file(rt, alloc, bytes)
+}
+
+/// Each call that makes or removes a folder or removes a file, and one that locks.
+fn fail_at_folders<R: Files<File = File> + Abort>(
+    rt: &R,
+    alloc: Global,
+    folder: &str,
+) -> crate::Result<()> {
+    let path = below(alloc, folder, "none/file")?;
+    let path = path.as_str();
     expect_named(rt, remove_dir_all(rt, alloc, path), "remove_dir_all", path);
     expect_named(rt, remove_dir(rt, alloc, path), "remove_dir", path);
     expect_named(rt, remove_file(rt, alloc, path), "remove_file", path);
@@ -354,12 +381,10 @@ fn failures_name_call_and_path(rt: HostRuntime) -> Result<(), Fail> {
     let alloc = rt.alloc();
     let rt = &rt;
     let base = env::temp_dir(rt)?;
-    temp_dir_in(
-        rt,
-        alloc,
-        base.as_str(),
-        move |folder| fail_at(rt, alloc, folder),
-    )?;
+    temp_dir_in(rt, alloc, base.as_str(), move |folder| {
+        fail_at_files(rt, alloc, folder)?;
+        fail_at_folders(rt, alloc, folder)
+    })?;
     let text = read(rt, alloc, "")
         .err()
         .ok_or("no error")?
