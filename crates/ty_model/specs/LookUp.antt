@@ -4,7 +4,7 @@ use Rattle.std.specs.Option.{option_or}
 use Rattle.std.specs.FinMap as map
 use Rattle.ty_model.specs.Values.{Id, Answer, Refused, AccessDenied}
 use Rattle.ty_model.specs.Places.{Place, At, Rootless, RefusedAt, place_of}
-use Rattle.ty_model.specs.Disk.{Told, answer_of, after_ask}
+use Rattle.ty_model.specs.Disk.{Told, answer_of}
 use Rattle.ty_model.specs.Version.{Layers, Version}
 
 -- what a version says of an id by itself: an answer, or a path that the disk decides
@@ -35,11 +35,6 @@ decision v id = said_or (map.get v.layers.by_id id) (place_decision v.layers (pl
 abbrev pub answer_by : Decision → Told → Answer
 answer_by (Says answer) disk = answer
 answer_by (Asks path) disk = answer_of disk path
-
--- what the disk tells after a decision: it is asked only where that asks
-abbrev pub told_after : Decision → Told → Told
-told_after (Says answer) disk = disk
-told_after (Asks path) disk = after_ask disk path
 
 -- the answer that an id has in a version over a disk
 abbrev pub look : Version → Told → Id → Answer
