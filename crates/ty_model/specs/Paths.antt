@@ -160,7 +160,7 @@ ends_in_slash [] = false
 ends_in_slash (b ∷ []) = b == 47
 ends_in_slash (b ∷ c ∷ bs) = ends_in_slash (c ∷ bs)
 
--- `other` below `base`, with one slash between; an absolute one stands alone
+-- `other` below `base`, with a slash between where `base` doesn't end with one; an absolute one stands alone
 abbrev pub join : List ℕ → List ℕ → List ℕ
 join base other =
     if is_absolute other || bytes_eq base [] then other

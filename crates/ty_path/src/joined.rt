@@ -6,7 +6,7 @@ use crate::memory::OutOfMemory;
 use crate::parts::is_absolute;
 use std::alloc::Global;
 
-/// `other` below `base`, with one slash between the two.
+/// `other` below `base`, with a slash between the two where `base` doesn't end with one.
 ///
 /// An absolute `other` stands alone, and an empty side gives the other side.
 pub fn join(alloc: Global, base: &str, other: &str) -> Result<String, OutOfMemory>
