@@ -1,4 +1,3 @@
 pub mod Component
 pub mod Parts
-pub mod Seen
 pub mod Shared

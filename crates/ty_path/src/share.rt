@@ -1,7 +1,6 @@
 //! Values that can be had twice, and those of the library among them.
-ghost use Rattle.std.specs.Prelude.{◌≡◌, ℕ, List, Result, IfOk};
+ghost use Rattle.std.specs.Prelude.{◌≡◌, ℕ, List, IfOk};
 ghost use Rattle.ty_path.specs.Shared.{path_text, shared_bytes};
-ghost use Rattle.ty_path.specs.Seen.{result_seen};
 
 use crate::memory::OutOfMemory;
 use std::alloc::Global;
@@ -46,18 +45,5 @@ impl Share for Arc<Vec<u8>> {
 
     fn share(&self, _alloc: Global) -> Result<Arc<Vec<u8>>, OutOfMemory> {
         Ok(Arc::try_clone(self)?)
-    }
-}
-
-impl<T: Share, E: Share> Share for Result<T, E> {
-    ghost Seen = { Result T.Seen E.Seen };
-
-    ghost seen = { result_seen T.seen E.seen };
-
-    fn share(&self, alloc: Global) -> Result<Result<T, E>, OutOfMemory> {
-        match self {
-            Ok(value) => Ok(Ok(value.share(alloc)?)),
-            Err(error) => Ok(Err(error.share(alloc)?)),
-        }
     }
 }
