@@ -2,6 +2,7 @@
 
 use super::*;
 use std::alloc::Global;
+use std::sync::Arc;
 use std::test::Fail;
 
 /// A path, and its cleaned, its normalized and its slashed form.
@@ -363,5 +364,22 @@ fn ways_between_paths(rt: HostRuntime) -> Result<(), Fail> {
             "from {base} to {path}"
         );
     }
+    Ok(())
+}
+
+#[test]
+fn shared_bytes_come_again(rt: HostRuntime) -> Result<(), Fail> {
+    let alloc = rt.alloc();
+    let bytes: ImmutBytes = Arc::new(alloc, vec![in alloc; 255, 0, 10]?)?;
+    let again = bytes.share(alloc)?;
+    drop(bytes);
+    assert_eq!(rt; again.as_slice(), [255, 0, 10].as_slice());
+    Ok(())
+}
+
+#[test]
+fn want_of_memory_has_a_text(rt: HostRuntime) -> Result<(), Fail> {
+    let text = format!(in rt.alloc(); "{}", OutOfMemory)?;
+    assert_eq!(rt; text.as_str(), "out of memory");
     Ok(())
 }
