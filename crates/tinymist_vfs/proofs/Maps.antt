@@ -17,7 +17,8 @@ use Rattle.ty_model.proofs.Tests.{text_total, text_exact, id_total, id_exact}
 use Rattle.ty_path.specs.Shared.{path_text}
 use Rattle.ty_persist.specs.Contents.{put_entry, IsAscending}
 use Rattle.ty_persist.specs.Texts.{is_text}
-use Rattle.ty_persist.specs.Seen.{seen_entries, get_map, get_by_seen_map, insert_map, remove_map, ascending_seen, from_entries-put_entry, from_entries-remove_entry}
+use Rattle.ty_persist.specs.Seen.{seen_entries}
+use Rattle.ty_persist.proofs.SeenLaws.{get_map, get_by_seen_map, insert_map, remove_map, ascending_seen, from_entries-put_entry, from_entries-remove_entry}
 use Rattle.tinymist_vfs.specs.Maps.{Path, path_map, id_map}
 
 abbrev pub path_cmp : Path → Path → Ordering

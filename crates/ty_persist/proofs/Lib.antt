@@ -1,3 +1,4 @@
+pub mod SeenLaws
 pub mod Entries
 pub mod Low
 pub mod Probes

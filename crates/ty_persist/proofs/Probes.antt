@@ -9,7 +9,8 @@ use Rattle.std.specs.BTreeMap.{is_at}
 use Rattle.std.proofs.lemmas.List.{map-append}
 use Rattle.std.proofs.lemmas.Iterator.Adapters.{option_map_id}
 use Rattle.ty_persist.specs.Contents.{IsAscending}
-use Rattle.ty_persist.specs.Seen.{Reads, seen_entries, lookup_by_seen, ascending_seen}
+use Rattle.ty_persist.specs.Seen.{seen_entries}
+use Rattle.ty_persist.proofs.SeenLaws.{Reads, lookup_by_seen, ascending_seen}
 use Rattle.ty_persist.proofs.Entries.{lookup_left, lookup_middle, lookup_right}
 
 module _ {K V A : Type 0} (f : K → A) (cmp : K → K → Ordering) (R : A → A → Ordering) (reads : Reads f cmp R) (o : IsTotalOrder R) (q : A) (l : List (K × V)) (e : K × V) (r : List (K × V)) (s : IsAscending cmp (l ++ e ∷ r)) where
