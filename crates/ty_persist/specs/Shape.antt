@@ -11,7 +11,7 @@ abbrev pub contents : {K V : Type 0} → Root K V → Contents K V
 contents Leaf = record { entries = []; height = 0 }
 contents (Fork n) = record { entries = n.value.left.entries ++ (n.value.entry.value.key, n.value.entry.value.value) ∷ n.value.right.entries; height = n.value.height }
 
--- the keys ascend, the stored height is right, and the sides differ by at most one
+-- no entry, or keys that ascend, a height that is low for their number and stored rightly, and sides whose heights differ by at most one
 abbrev pub IsAvl : {K V : Type 0} → (K → K → Ordering) → Root K V → Type 0
 IsAvl cmp Leaf = Unit {0}
 IsAvl cmp (Fork n) = IsAscending cmp (contents (Fork n)).entries × IsLow (contents (Fork n))

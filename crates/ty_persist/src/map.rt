@@ -1,4 +1,5 @@
-//! An ordered map whose older versions stay: a share of it costs one step, and a change copies the nodes of one path.
+//! An ordered map whose older versions stay: a share costs one step, a new value copies only what others share, and
+//! any other change copies the nodes of one path and those that it rotates.
 ghost use Rattle.std.specs.Prelude.{◌≡◌, ◌+◌, ◌*◌, ◌≤◌, ◌↔◌, [], length, IsTrue, is_some, IfOk, OnOk, OnErr};
 ghost use Rattle.std.specs.Option.{option_copied, option_map};
 ghost use Rattle.std.specs.Map.{lookup, remove_entry};
@@ -57,7 +58,8 @@ impl<K: Ord + Share, V: Share> Map<K, V> {
         }
     }
 
-    /// The same map again, which later changes of either leave as it is. An error leaves all as before.
+    /// The same map again, which later changes of either leave as it is. An error leaves the map as
+    /// it was, and may have counted the step.
     pub fn share<L: Ledger>(&self, steps: &mut Steps<L>) -> Result<Map<K, V>, OutOfMemory>
         ensures same { IfOk result (λ again. again ≡ self.now) }
         ensures cost { steps.new ≤ steps.old + 1 }

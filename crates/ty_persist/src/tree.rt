@@ -21,12 +21,14 @@ use ty_path::{OutOfMemory, Share};
 
 mod replace;
 
+/// Entries in the order of their keys, as a tree whose nodes are shared.
 #[cycle(tree)]
 #[derive(Drop)]
 pub(crate) struct Tree<K: Ord + Share, V: Share> {
     root: Root<K, V>,
 }
 
+/// No entry, or a node that other trees may share.
 #[cycle(tree)]
 #[derive(Drop)]
 enum Root<K: Ord + Share, V: Share> {
@@ -34,6 +36,7 @@ enum Root<K: Ord + Share, V: Share> {
     Fork(Arc<Node<K, V>>),
 }
 
+/// An entry between two trees nearly of one height, and the height of the whole.
 #[cycle(tree)]
 #[derive(Drop)]
 struct Node<K: Ord + Share, V: Share> {
@@ -168,6 +171,7 @@ fn fork_apart<K: Ord + Share, V: Share, L: Ledger>(
     fork(alloc, left, Arc::try_clone(&n.entry)?, right, steps)
 }
 
+// A node of these sides, rotated, where the left one is two levels higher.
 fn lean_left<K: Ord + Share, V: Share, L: Ledger>(
     alloc: Global,
     left: &Tree<K, V>,
@@ -196,6 +200,7 @@ fn lean_left<K: Ord + Share, V: Share, L: Ledger>(
     }
 }
 
+// A node of these sides, rotated, where the right one is two levels higher.
 fn lean_right<K: Ord + Share, V: Share, L: Ledger>(
     alloc: Global,
     left: Tree<K, V>,
