@@ -97,10 +97,10 @@ impl Lines {
         if !is_place(self.text.as_str(), byte) {
             return None;
         }
-        let start = self.start_at(byte);
+        let (line, start) = self.line_and_start(byte);
         let since = &self.text.as_bytes()[start.byte..byte];
         Some(Place {
-            line: self.line_at(byte),
+            line,
             column: characters(since),
             utf16: units(since),
         })
@@ -149,12 +149,23 @@ impl Lines {
         self.starts.partition_point(|start| start.byte <= byte) - 1
     }
 
+    /// The line of a byte, and where it starts.
+    fn line_and_start(&self, byte: usize) -> (usize, LineStart)
+        requires { byte ≤ length self.now }
+        ensures line { result.0 ≡ line_at self.now byte }
+        ensures start { result.1 ≡ entry self.now (start_at self.now byte) }
+        ensures before { result.1.byte ≤ byte }
+    {
+        let line = self.line_at(byte);
+        (line, self.starts[line])
+    }
+
     fn start_at(&self, byte: usize) -> LineStart
         requires { byte ≤ length self.now }
         ensures start { result ≡ entry self.now (start_at self.now byte) }
         ensures before { result.byte ≤ byte }
     {
-        self.starts[self.line_at(byte)]
+        self.line_and_start(byte).1
     }
 }
 
