@@ -193,13 +193,13 @@ impl Ord for FileId {
 
     fn cmp(&self, other: &FileId) -> Ordering {
         order_of_roots(&self.parts.root, &other.parts.root)
-            .then(
+            .then_with(|| {
                 self.parts
                     .vpath
                     .get_with_slash()
-                    .cmp(other.parts.vpath.get_with_slash()),
-            )
-            .then(self.parts.tag.cmp(&other.parts.tag))
+                    .cmp(other.parts.vpath.get_with_slash())
+            })
+            .then_with(|| self.parts.tag.cmp(&other.parts.tag))
     }
 }
 
