@@ -118,7 +118,7 @@ impl FileId {
         })
     }
 
-    /// What the virtual path stands below; a folder is cleaned.
+    /// What the virtual path stands below, as it is stored.
     pub fn root(&self) -> &Root
         ensures { root_of result.now ≡ self.now.root }
     {
@@ -132,7 +132,8 @@ impl FileId {
         &self.parts.vpath
     }
 
-    /// The tag: 0 of an interned id, and else a number that no other id of the same tags has.
+    /// The tag: 0 of an interned id, 1 of the detached entry, 2 of the main file in memory, and else a number drawn
+    /// from `Tags`.
     pub fn tag(&self) -> u64
         ensures { result ≡ self.now.tag }
     {

@@ -130,6 +130,7 @@ impl VirtualPath {
         ensures path { IfOk result (λ path. string_bytes path ≡ plain.realize root.now self.now) }
         ensures below { IfOk result (λ path. IsBelow root.now (string_bytes path)) }
     {
+        // Reading the field tells the proof its invariant: the text is a virtual path.
         let _text = &self.text;
         let path = join(alloc, root, self.get_without_slash())?;
         clean(alloc, path.as_str())
