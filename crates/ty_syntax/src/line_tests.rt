@@ -115,12 +115,14 @@ fn is_end(character: char, next: Option<u8>) -> bool {
     }
 }
 
-/// Where a scan from the start ends up: its line, where that starts, the characters since then, and the units.
+/// Where a scan from the start ends up: its line, where that starts, the characters and the units since then, and all
+/// units.
 #[derive(Clone, Copy)]
 struct Scanned {
     line: usize,
     start: usize,
     column: usize,
+    unit: usize,
     utf16: usize,
 }
 
@@ -130,6 +132,7 @@ fn scan(text: &str, offset: usize) -> Scanned {
         line: 0,
         start: 0,
         column: 0,
+        unit: 0,
         utf16: 0,
     };
     for (byte, character) in text.char_indices() {
@@ -138,11 +141,13 @@ fn scan(text: &str, offset: usize) -> Scanned {
             return at;
         }
         at.utf16 = at.utf16.saturating_add(character.len_utf16());
+        at.unit = at.unit.saturating_add(character.len_utf16());
         at.column = at.column.saturating_add(1);
         if is_end(character, text.as_bytes().get(end).copied()) {
             at.line = at.line.saturating_add(1);
             at.start = end;
             at.column = 0;
+            at.unit = 0;
         }
     }
     at
@@ -153,9 +158,15 @@ fn answers_as_scanned(lines: &Lines, text: &str, offset: usize) -> bool {
     let at = scan(text, offset);
     let line = (offset <= text.len()).then_some(at.line);
     let is_place = text.is_char_boundary(offset);
+    let place = Place {
+        line: at.line,
+        column: at.column,
+        utf16: at.unit,
+    };
     lines.byte_to_line(offset) == line
         && lines.byte_to_column(offset) == is_place.then_some(at.column)
         && lines.byte_to_utf16(offset) == is_place.then_some(at.utf16)
+        && lines.byte_to_place(offset) == is_place.then_some(place)
         && lines.line_to_byte(at.line) == Some(at.start)
 }
 

@@ -126,16 +126,11 @@ fn texts_behind_a_path(rt: HostRuntime) {
 }
 
 #[test]
-fn virtual_paths(rt: HostRuntime) -> Result<(), Fail> {
+fn virtual_paths(rt: HostRuntime) {
     for (text, named) in &VIRTUAL {
         let made = VirtualPath::new(rt.alloc(), text);
-        match (&made, named) {
-            (Ok(made), Ok(named)) => assert_eq!(rt; made.get_with_slash(), *named, "of {text:?}"),
-            (Err(made), Err(named)) => assert_eq!(rt; made, named, "of {text:?}"),
-            _ => assert!(rt; false, "of {text:?}"),
-        }
+        assert_eq!(rt; as_text(&made), *named, "of {text:?}");
     }
-    Ok(())
 }
 
 /// The path below a root, where the text names a virtual path.
@@ -344,6 +339,34 @@ fn errors_of_packages_print(rt: HostRuntime) -> Result<(), Fail> {
     ];
     for (error, want) in rows {
         let text = FileError::Package(error).to_string(alloc)?;
+        assert_eq!(rt; text.as_str(), want);
+    }
+    Ok(())
+}
+
+#[test]
+fn faults_print(rt: HostRuntime) -> Result<(), Fail> {
+    let alloc = rt.alloc();
+    let rows = [
+        (
+            TagFault::Full.to_string(alloc)?,
+            "the counter stands at its last value",
+        ),
+        (TagFault::OutOfMemory.to_string(alloc)?, "out of memory"),
+        (
+            PathFault::Escapes.to_string(alloc)?,
+            "the path leaves its root",
+        ),
+        (
+            PathFault::BadByte.to_string(alloc)?,
+            "the path holds a NUL byte",
+        ),
+        (PathFault::OutOfMemory.to_string(alloc)?, "out of memory"),
+        (EditFault::Range.to_string(alloc)?, "no span of the text"),
+        (EditFault::OutOfMemory.to_string(alloc)?, "out of memory"),
+        (FileFault::OutOfMemory.to_string(alloc)?, "out of memory"),
+    ];
+    for (text, want) in rows {
         assert_eq!(rt; text.as_str(), want);
     }
     Ok(())
