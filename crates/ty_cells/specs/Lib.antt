@@ -1,3 +1,4 @@
 pub mod Snapshot
+pub mod Same
 pub mod Disk
 pub mod MapAccess

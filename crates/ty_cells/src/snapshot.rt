@@ -2,6 +2,7 @@
 ghost use Rattle.std.specs.Prelude.{◌≡◌, ◌↔◌, ℕ, List, IsTrue, IsOk, IfOk};
 ghost use Rattle.ty_model.specs.Values.{Answer, Content, Refused, NotFound, AccessDenied, same_answer};
 ghost use Rattle.ty_syntax.specs.Error.{refusal_of};
+ghost use Rattle.ty_cells.specs.Same.{answer_equiv, answer_part};
 
 use std::alloc::Global;
 use std::marker::Model;
@@ -146,6 +147,20 @@ fn same_error(a: &FileError, b: &FileError) -> bool
     ensures { IsTrue result ↔ (refusal_of a.now ≡ refusal_of b.now) }
 {
     a == b
+}
+
+impl PartialEq for FileSnapshot {
+    ghost eq = { same_answer };
+
+    ghost laws = { answer_part };
+
+    fn eq(&self, other: &FileSnapshot) -> bool {
+        self.same_as(other)
+    }
+}
+
+impl Eq for FileSnapshot {
+    ghost laws = { answer_equiv };
 }
 
 impl Share for FileSnapshot {

@@ -52,6 +52,11 @@ fn what_is_said_is_compared_by_its_content(rt: HostRuntime) -> Result<(), Fail> 
                 place == other_place,
                 "{place} and {other_place}"
             );
+            assert_eq!(rt;
+                *one == copy,
+                place == other_place,
+                "{place} and {other_place}"
+            );
         }
     }
     Ok(())
