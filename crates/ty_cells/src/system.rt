@@ -46,7 +46,7 @@ impl<R: Files + AllocGlobal + Drop> PathAccessModel for SystemAccessModel<R> {
 
     /// A folder is a directory, a missing file is not found, and a file that may not be read is denied.
     fn content(&mut self, alloc: Global, path: &str) -> Result<FileSnapshot, OutOfMemory> {
-        read(alloc, &self.rt, path)
+        read(&self.rt, alloc, path)
     }
 
     /// What a file holds later isn't known, so every answer is taken as it is.
@@ -84,16 +84,16 @@ impl LazyFile {
     /// What the file holds now, as `SystemAccessModel` says it. This is a thin edge.
     pub fn read<R: Files + AllocGlobal>(
         &self,
-        alloc: Global,
         rt: &R,
+        alloc: Global,
     ) -> Result<FileSnapshot, OutOfMemory> {
-        read(alloc, rt, self.path.as_str())
+        read(rt, alloc, self.path.as_str())
     }
 }
 
 fn read<R: Files + AllocGlobal>(
-    alloc: Global,
     rt: &R,
+    alloc: Global,
     path: &str,
 ) -> Result<FileSnapshot, OutOfMemory> {
     match fs::read(rt, path) {

@@ -104,10 +104,10 @@ fn the_system_tells_of_its_folders(rt: HostRuntime) -> Result<(), Fail> {
     let folder = LazyFile::new(String::from_str(alloc, "/")?);
     let missing = LazyFile::new(String::from_str(alloc, "/no/such/file")?);
     assert_eq!(rt;
-        folder.read(alloc, &rt)?.is_file(alloc),
+        folder.read(&rt, alloc)?.is_file(alloc),
         Err(FileFault::File(FileError::IsDirectory))
     );
-    assert!(rt; missing.read(alloc, &rt)?.is_missing("/no/such/file"));
+    assert!(rt; missing.read(&rt, alloc)?.is_missing("/no/such/file"));
     let system = SystemAccessModel::new(rt);
     assert!(rt; system.stat("/").is_ok_and(|meta| meta.is_dir));
     assert!(rt; system.stat("/no/such/file").is_err());
