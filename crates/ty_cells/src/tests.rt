@@ -33,6 +33,30 @@ fn an_empty_disk_finds_nothing(rt: HostRuntime) -> Result<(), Fail> {
     Ok(())
 }
 
+/// A disk of one file.
+fn file_disk(alloc: Global) -> Result<MapAccess, Fail> {
+    let said = holding(alloc, b"a")?;
+    let mut files = Vec::new(alloc);
+    files.push((String::from_str(alloc, "/w/a.typ")?, said))?;
+    Ok(MapAccess::new(files))
+}
+
+#[test]
+fn a_disk_of_one_file_finds_it(rt: HostRuntime) -> Result<(), Fail> {
+    let alloc = rt.alloc();
+    let mut disk = file_disk(alloc)?;
+    let found = disk.content(alloc, "/w/a.typ")?;
+    let missing = disk.content(alloc, "/w/b.typ")?;
+    let changed = holding(alloc, b"b")?;
+    assert_eq!(rt; found.content(alloc)?.as_slice(), b"a".as_slice());
+    assert!(rt; missing.is_missing("/w/b.typ"));
+    assert!(rt; disk.holds("/w/a.typ", &found));
+    assert!(rt; !disk.holds("/w/a.typ", &changed));
+    assert!(rt; !disk.holds("/w/a.typ", &missing));
+    assert!(rt; disk.holds("/w/b.typ", &missing));
+    Ok(())
+}
+
 #[test]
 fn what_is_said_is_compared_by_its_content(rt: HostRuntime) -> Result<(), Fail> {
     let alloc = rt.alloc();
