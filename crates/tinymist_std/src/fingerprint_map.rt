@@ -65,10 +65,11 @@ impl<V: Drop> FingerprintMap<V> {
     }
 
     /// The entries, which ascend by the fingerprint's low half, and then by its high half.
-    pub fn into_items(self, alloc: Global) -> Result<Vec<(Fingerprint, V)>, OutOfMemory>
+    pub fn into_items(self) -> Result<Vec<(Fingerprint, V)>, OutOfMemory>
         ensures { IfOk result (λ items.
             IsSortedByKey (λ item. item.0) halves_cmp items.items) }
     {
+        let alloc = *self.shards.allocator();
         let mut items = Vec::new(alloc);
         for shard in self.shards {
             append_part(&mut items, shard.into_inner())?;

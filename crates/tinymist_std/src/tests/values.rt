@@ -72,7 +72,7 @@ fn fingerprint_maps_hold_entries(rt: HostRuntime) -> Result<(), Fail> {
     }
     assert!(rt; map.contains_key(&rt, &low));
     assert!(rt; !map.contains_key(&rt, &Fingerprint::from_pair(5, 5)));
-    let items = map.into_items(rt.alloc())?;
+    let items = map.into_items()?;
     let keys: Vec<Fingerprint> = items.iter().map(|item| item.0).collect(rt.alloc())?;
     assert!(rt; keys.as_slice() == [first, low, high].as_slice());
     Ok(())
@@ -105,7 +105,7 @@ fn fingerprints_stand_in_their_parts(rt: HostRuntime) -> Result<(), Fail> {
             );
         }
     }
-    assert_eq!(rt; map.into_items(rt.alloc())?.len(), PLACES.len());
+    assert_eq!(rt; map.into_items()?.len(), PLACES.len());
     Ok(())
 }
 
