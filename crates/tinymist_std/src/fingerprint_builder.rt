@@ -60,7 +60,7 @@ impl<B: Base128> FingerprintBuilder<B> {
 
     /// A builder that keeps nothing.
     pub fn new(alloc: Global) -> FingerprintBuilder<B>
-        ensures { (f : Halves) → kept_data ⟦<Fingerprint as PartialEq>⟧.eq result f ≡ None }
+        ensures { (f : Halves) → kept_data result f ≡ None }
     {
         FingerprintBuilder {
             alloc,
@@ -82,12 +82,11 @@ impl<B: Base128> FingerprintBuilder<B> {
     pub fn resolve<T: Feed>(&mut self, kind: u64, item: &T) -> Result<Fingerprint, ResolveFault>
         ensures ok { let given = kind_and_item kind (T.bytes_of item.now) in
             let f = fingerprint_of (B.hash128_of given) in
-            IfOk result (λ r. (r ≡ f) × KeptAs ⟦<Fingerprint as PartialEq>⟧.eq self.old f given
-            × Keeps ⟦<Fingerprint as PartialEq>⟧.eq self.old self.new f given) }
+            IfOk result (λ r. (r ≡ f) × KeptAs self.old f given × Keeps self.old self.new f given) }
         ensures conflict { let given = kind_and_item kind (T.bytes_of item.now) in
             let f = fingerprint_of (B.hash128_of given) in
-            IfErr result (IsConflict (kept_data ⟦<Fingerprint as PartialEq>⟧.eq self.old f) given) }
-        ensures err { OnErr result (KeepsAll ⟦<Fingerprint as PartialEq>⟧.eq self.old self.new) }
+            IfErr result (IsConflict (kept_data self.old f) given) }
+        ensures err { OnErr result (KeepsAll self.old self.new) }
     {
         let data = kind_and_item(self.alloc, kind, item)?;
         let fingerprint = fingerprint_of::<B>(data.as_slice());
