@@ -10,7 +10,8 @@ use crate::error::{Args, ErrKind, Error, Result};
 use std::alloc::Global;
 use std::fmt::Display;
 
-/// Says where a failure was met, and keeps its kind.
+/// Says where a failure was met. The error has the kind that the failure becomes (`ErrKindExt`), and
+/// in place of a `None` the kind that says nothing.
 pub trait WithContext<T>: Sized {
     // `holds self x`: self is no failure, and x is its value.
     ghost holds: { Self → T → Type 0 };

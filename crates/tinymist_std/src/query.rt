@@ -16,7 +16,7 @@ pub enum QueryFault<'a, E> {
     /// The query failed with this error, which stays.
     #[error("{0}")]
     Query(&'a E),
-    /// Memory ran out, and nothing is kept.
+    /// Memory ran out, and the note knows nothing.
     #[error("out of memory")]
     OutOfMemory,
 }

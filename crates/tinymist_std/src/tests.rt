@@ -126,7 +126,7 @@ fn number(alloc: Global, digits: &str) -> crate::Result<u8> {
 }
 
 #[test]
-fn contexts_keep_the_kind(rt: HostRuntime) -> Result<(), Fail> {
+fn contexts_put_their_place_in_front(rt: HostRuntime) -> Result<(), Fail> {
     let alloc = rt.alloc();
     let kept = number(alloc, "7").context(alloc, "p");
     assert!(rt; matches!(kept, Ok(7)));
