@@ -7,7 +7,9 @@ ghost use Rattle.tinymist_std.specs.CowMut.{cow_value, cow_with};
 /// An owned value, or one that is lent to be written.
 #[derive(Drop)]
 pub enum CowMut<'a, T> {
+    /// The value itself.
     Owned(T),
+    /// A value that stands elsewhere.
     Borrowed(&'a mut T),
 }
 
