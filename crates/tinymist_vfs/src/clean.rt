@@ -139,6 +139,7 @@ impl<R: RootResolver> Vfs<R> {
         ensures resolver { OnOk result (self.new.resolver ≡ resolver) }
         ensures err { IfErr result (λ e. (self.new ≡ self.old) × (e.0 ≡ resolver)) }
         ensures full { IsErr result ↔ (self.old.held.revision ≡ 2 ^ 64 - 1) }
+        ensures only { IfErr result (λ e. e.1 ≡ ReviseFault.Full) }
     {
         if self.revision == u64::MAX {
             return Err((resolver, ReviseFault::Full));

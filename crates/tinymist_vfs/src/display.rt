@@ -1,9 +1,8 @@
 //! An id as a text for people.
-ghost use Rattle.std.specs.Prelude.{◌≡◌, ◌++◌, Some};
+ghost use Rattle.std.specs.Prelude.{◌≡◌, Some};
 ghost use Rattle.std.specs.Option.{option_copied};
 ghost use Rattle.std.specs.Fmt.{WritesOnOk};
 ghost use Rattle.ty_model.specs.Paths.{realize};
-ghost use Rattle.ty_syntax.specs.Spec.{spec_of, spec_text};
 ghost use Rattle.tinymist_vfs.specs.Workspace.{id_text};
 
 use std::alloc::Global;

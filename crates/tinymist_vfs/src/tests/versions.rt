@@ -55,6 +55,28 @@ fn ids_of(alloc: Global, paths: &[&str]) -> Result<Vec<FileId>, Fail> {
     Ok(ids)
 }
 
+// Paths that have no file of a parent: a relative one, the root, and one with a NUL byte.
+#[test]
+fn paths_without_an_id(rt: HostRuntime) -> Result<(), Fail> {
+    let alloc = rt.alloc();
+    for path in ["a.typ", "/", "", "/w/a\0.typ"] {
+        let id = WorkspaceResolver::file_with_parent_root(alloc, path)?;
+        assert!(rt; id.is_none(), "{path:?}");
+    }
+    assert_eq!(rt; ids_of(alloc, &["/a.typ", "/w/./a.typ"])?.len(), 2);
+    Ok(())
+}
+
+#[test]
+fn refused_batches_have_texts(rt: HostRuntime) -> Result<(), Fail> {
+    let alloc = rt.alloc();
+    let full = format!(in alloc; "{}", ReviseFault::Full)?;
+    assert_eq!(rt; full.as_str(), "the revision stands at its last value");
+    let memory = format!(in alloc; "{}", ReviseFault::OutOfMemory)?;
+    assert_eq!(rt; memory.as_str(), "out of memory");
+    Ok(())
+}
+
 #[test]
 fn batches_of_every_kind(rt: HostRuntime) -> Result<(), Fail> {
     let alloc = rt.alloc();
@@ -63,6 +85,7 @@ fn batches_of_every_kind(rt: HostRuntime) -> Result<(), Fail> {
     let mut batch = live.revise()?;
     batch.map_shadow("/w/./a", holding(alloc, "x")?)?;
     batch.map_shadow_by_id(&id, holding(alloc, "y")?)?;
+    assert_eq!(rt; batch.vfs().revision(), 2);
     assert_eq!(rt; batch.finish()?, 3);
     assert_eq!(rt; joined(alloc, &live.shadow_paths()?)?.as_str(), "/w/a ");
     assert!(rt; matches!(live.shadow_ids()?.as_slice(), [shadow] if *shadow == id));
