@@ -21,9 +21,9 @@ use Rattle.ty_model.specs.Space.{Space}
 use Rattle.tinymist_session.specs.Command.{Command, Edit, MapId, UnmapId, Rootless, Snapshot, Read, Source, Line, Paths, Ids, Path, Clean, PathWord, TagWord}
 use Rattle.tinymist_session.specs.Reply.{Reply, AtRevision, ViewNumber, BadView, BadId, reply_to, reply_line}
 use Rattle.tinymist_session.specs.Machine.{State, opening, step, view_at, with_asked, on_named, read_in}
-use Rattle.tinymist_session.specs.Session.{replies_from, replies_to, commands_of}
+use Rattle.tinymist_session.specs.Session.{default_limits, replies_from, replies_to, commands_of}
 use Rattle.tinymist_plain.specs.Kept.{Lists, Listed, listed, same_lists, looked}
-use Rattle.tinymist_plain.specs.Worked.{no_files, default_limits, IsWorked}
+use Rattle.tinymist_plain.specs.Worked.{no_files, IsWorked}
 use Rattle.tinymist_plain.proofs.Edits.{mapped, committed}
 use Rattle.tinymist_plain.proofs.Lists.{entries-empty}
 use Rattle.tinymist_plain.proofs.Looks.{look_is}

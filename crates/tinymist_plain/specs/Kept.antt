@@ -122,7 +122,7 @@ pub record IsKept (p : State) (s : machine.State) : Type 0 where
   pub next_tag : p.next_tag ≡ s.next_tag
   pub tagged : p.tagged.items ≡ s.tagged
 
--- the greatest revision of all spaces
+-- the greatest revision of these spaces
 abbrev pub highest : List Space → ℕ
 highest [] = 0
 highest (s ∷ ss) = max s.latest.revision (highest ss)

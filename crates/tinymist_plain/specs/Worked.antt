@@ -1,15 +1,11 @@
 -- Worked sessions by the definition.
 use Rattle.std.specs.Prelude.{◌≡◌, ℕ, List, []}
 use Rattle.ty_model.specs.Disk.{Told, NothingElse}
-use Rattle.tinymist_session.specs.Session.{Limits, Whole, end_of, replies_to}
+use Rattle.tinymist_session.specs.Session.{Whole, default_limits, end_of, replies_to}
 
 -- a disk without files
 abbrev pub no_files : Told
 no_files = record { files = []; rest = NothingElse }
-
--- the limits of a session whose words don't state any
-abbrev pub default_limits : Limits
-default_limits = record { max_line = 16777216; max_lines = 1000000 }
 
 -- over it, under the default limits, each line of the input is good, and these are the replies
 abbrev pub IsWorked : List ℕ → List ℕ → Type 0

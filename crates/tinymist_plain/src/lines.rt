@@ -1,9 +1,8 @@
 //! An input cut into lines, and the commands of its good lines.
 ghost use Rattle.std.specs.Prelude.{◌≡◌, map, IfOk};
 ghost use Rattle.std.specs.Option.{option_map};
-ghost use Rattle.tinymist_session.specs.Said.{command_of};
+ghost use Rattle.tinymist_session.specs.Said.{command_of, limits_said};
 ghost use Rattle.tinymist_session.specs.Session as plain;
-ghost use Rattle.tinymist_session.specs.Turns.{limits_of};
 
 use std::alloc::Global;
 use tinymist_session::{Command, Limits, read_command};
@@ -35,7 +34,7 @@ pub(crate) fn good_commands(
     limits: &Limits,
     lines: &[Vec<u8>],
 ) -> Result<Vec<Command>, OutOfMemory>
-    ensures { IfOk result (λ commands. map command_of commands.items ≡ plain.good_commands (limits_of limits.now) (map (λ l. l.items) lines.now)) }
+    ensures { IfOk result (λ commands. map command_of commands.items ≡ plain.good_commands (limits_said limits.now) (map (λ l. l.items) lines.now)) }
 {
     let mut commands = Vec::new(alloc);
     for line in lines {
@@ -49,7 +48,7 @@ pub(crate) fn good_commands(
 
 /// The command of a line, where it isn't too long and is a sentence.
 fn good_line(alloc: Global, limits: &Limits, line: &[u8]) -> Result<Option<Command>, OutOfMemory>
-    ensures { IfOk result (λ said. option_map command_of said ≡ plain.good_line (limits_of limits.now) line.now) }
+    ensures { IfOk result (λ said. option_map command_of said ≡ plain.good_line (limits_said limits.now) line.now) }
 {
     if line.len() <= limits.max_line as usize {
         read_command(alloc, line)

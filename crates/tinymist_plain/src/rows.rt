@@ -15,6 +15,7 @@ pub struct WorkedSession {
 #[tactic(auto, using(crate::proofs::Replies::no_lines))]
 pub fn no_line() -> WorkedSession
     ensures input { result.input.now ≡ [] }
+    ensures replies { result.replies.now ≡ [] }
     ensures worked { IsWorked result.input.now result.replies.now }
 {
     WorkedSession {
@@ -26,6 +27,7 @@ pub fn no_line() -> WorkedSession
 /// A file that is mapped, and read in a snapshot by a last line without LF.
 pub fn map_and_read() -> WorkedSession
     ensures input { result.input.now ≡ codes "map\t0\t/w/a.typ\t=6869\nsnapshot\nread\t1\t/w/a.typ" }
+    ensures replies { result.replies.now ≡ codes "ok\t3\nview\t1\nbytes\t6869\n" }
     ensures worked { IsWorked result.input.now result.replies.now }
 {
     WorkedSession {
@@ -37,6 +39,7 @@ pub fn map_and_read() -> WorkedSession
 /// Two views of a file with an edit between, and a view that there isn't.
 pub fn two_views() -> WorkedSession
     ensures input { result.input.now ≡ codes "map\t0\t/w/a.typ\t=6f6c64\nsnapshot\nmap\t0\t/w/a.typ\t=6e6577\nsnapshot\nread\t1\t/w/a.typ\nread\t2\t/w/a.typ\nread\t3\t/w/a.typ\n" }
+    ensures replies { result.replies.now ≡ codes "ok\t3\nview\t1\nok\t4\nview\t2\nbytes\t6f6c64\nbytes\t6e6577\nerr\tview\n" }
     ensures worked { IsWorked result.input.now result.replies.now }
 {
     WorkedSession {

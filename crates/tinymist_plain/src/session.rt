@@ -1,11 +1,10 @@
 //! A whole session in memory: the replies to an input, and its end.
 ghost use Rattle.std.specs.Prelude.{◌≡◌, ◌-◌, ◌^◌, ◌<◌, take, map, IfOk};
 ghost use Rattle.ty_model.specs.Disk.{Told, IsFixed};
-ghost use Rattle.tinymist_session.specs.Said.{command_of};
+ghost use Rattle.tinymist_session.specs.Said.{command_of, limits_said};
 ghost use Rattle.tinymist_session.specs.Machine.{opening};
 ghost use Rattle.tinymist_session.specs.Session as plain;
 ghost use Rattle.tinymist_session.specs.Session.{end_of, replies_to};
-ghost use Rattle.tinymist_session.specs.Turns.{limits_of};
 ghost use Rattle.tinymist_plain.specs.Ended.{ended};
 
 use crate::lines::{good_commands, lines_of};
@@ -42,8 +41,8 @@ pub fn plain_session<M: PathAccessModel>(
     limits: &Limits,
     disk: &mut M,
 ) -> Result<PlainSession, OutOfMemory>
-    ensures end { IfOk result (λ s. ended s.end ≡ end_of (limits_of limits.now) input.now) }
-    ensures replies { (told : Told) → M.told disk.old ≡ Some told → IsFixed told → IfOk result (λ s. s.replies.items ≡ replies_to (limits_of limits.now) told input.now) }
+    ensures end { IfOk result (λ s. ended s.end ≡ end_of (limits_said limits.now) input.now) }
+    ensures replies { (told : Told) → M.told disk.old ≡ Some told → IsFixed told → IfOk result (λ s. s.replies.items ≡ replies_to (limits_said limits.now) told input.now) }
     ensures left { (told : Told) → M.told disk.old ≡ Some told → IsFixed told → M.told disk.new ≡ Some told }
 {
     let lines = lines_of(alloc, input)?;

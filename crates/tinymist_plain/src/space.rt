@@ -80,6 +80,7 @@ impl Space {
         self.past.insert(0, before)?;
         Ok(())
     }
+
     /// Whether ids are clean since a revision: all versions from there on have the same entries for each of them.
     pub(crate) fn are_clean(
         &self,

@@ -8,9 +8,10 @@ use Rattle.tinymist_session.specs.Command.{Command}
 use Rattle.tinymist_session.specs.Lf.{IsLine}
 use Rattle.tinymist_session.specs.Machine.{State, step, opening}
 use Rattle.tinymist_session.specs.Reply.{reply_line}
-use Rattle.tinymist_session.specs.Session.{Limits, ended, before, good_line, good_commands, replies_from, state_after}
+use Rattle.tinymist_session.specs.Session.{Limits, ended, before, good_line, good_commands, replies_from}
 use Rattle.tinymist_session.specs.Run.{Received, replies_received, TakenWithin, most_bytes}
-use Rattle.tinymist_session.specs.Turns.{GoodLine, Broken, Front}
+use Rattle.tinymist_session.specs.Turns.{GoodLine, Broken}
+use Rattle.tinymist_session.proofs.UnderWay.{Front, state_after}
 
 ended_push : (lines : List (List ℕ)) (line : List ℕ) → ended (lines ++ line ∷ []) ≡ ended lines ++ (line ++ 10 ∷ [])
 ended_push [] line = refl

@@ -11,6 +11,7 @@ pub mod Tabs
 pub mod Fixed
 pub mod Lines
 pub mod Passes
+pub mod UnderWay
 pub mod Fronts
 pub mod Bounds
 pub mod Runs

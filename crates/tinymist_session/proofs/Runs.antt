@@ -8,11 +8,12 @@ use Rattle.tinymist_vfs.specs.declared.resolver.MockRootResolver.{MockRootResolv
 use Rattle.tinymist_session.specs.Machine.{State, step, opening}
 use Rattle.tinymist_session.specs.Reply.{reply_line}
 use Rattle.tinymist_session.specs.Session as session
-use Rattle.tinymist_session.specs.Session.{good_commands, replies_from, state_after}
+use Rattle.tinymist_session.specs.Session.{good_commands, replies_from}
 use Rattle.tinymist_session.specs.declared.session.SessionFault.{SessionFault}
 use Rattle.tinymist_session.specs.declared.session.SessionFault.TheVariants.{ReadFault}
 use Rattle.tinymist_session.specs.Shown.{IsShown}
-use Rattle.tinymist_session.specs.Turns.{replies, Passed, Pending}
+use Rattle.tinymist_session.specs.Turns.{replies, Passed}
+use Rattle.tinymist_session.proofs.UnderWay.{Pending, state_after}
 use Rattle.tinymist_session.proofs.Known.{append-append}
 use Rattle.tinymist_session.proofs.Passes.{append-nil_known}
 use Rattle.tinymist_session.proofs.Fronts.{front_start, front_push, commands_push, replies_push, state_push}

@@ -13,7 +13,9 @@ use Rattle.ty_syntax.specs.declared.error.FileFault.TheVariants.{File, OutOfMemo
 use Rattle.tinymist_session.specs.Command as plain
 use Rattle.tinymist_session.specs.Grammar.{Changes, removing, telling, joined, changes_of}
 use Rattle.tinymist_session.specs.Reply as plain_reply
+use Rattle.tinymist_session.specs.Session as session
 use Rattle.tinymist_session.specs.Words as words
+use Rattle.tinymist_session.specs.declared.limits.Limits.{Limits}
 use Rattle.tinymist_session.specs.declared.limits.Options.{Options}
 use Rattle.tinymist_session.specs.ChangeSets.{set_said}
 use Rattle.tinymist_session.specs.declared.content.ContentWord.{ContentWord}
@@ -87,6 +89,10 @@ reply_of reply.BadView = plain_reply.BadView
 reply_of reply.BadId = plain_reply.BadId
 reply_of reply.BadRevision = plain_reply.BadRevision
 reply_of reply.BadOffset = plain_reply.BadOffset
+
+-- the limits as the definition has them
+abbrev pub limits_said : Limits → session.Limits
+limits_said l = record { max_line = l.max_line; max_lines = l.max_lines }
 
 -- the options as the definition has them
 abbrev pub options_said : Options → words.Options

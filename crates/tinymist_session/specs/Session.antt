@@ -12,6 +12,10 @@ pub record Limits : Type 0 where
   pub max_line : ℕ
   pub max_lines : ℕ
 
+-- the limits of a session whose words don't state any
+abbrev pub default_limits : Limits
+default_limits = record { max_line = 16777216; max_lines = 1000000 }
+
 -- the parts of an input cut at LF, where a rest without LF counts if it has a byte
 abbrev pub lines_of : List ℕ → List (List ℕ)
 lines_of [] = []
@@ -67,11 +71,6 @@ replies_from disk s [] = []
 replies_from disk s (command ∷ commands) =
     let stepped = step s disk command in
     reply_line stepped.reply ++ replies_from disk stepped.state commands
-
--- the state after commands, one after another
-abbrev pub state_after : Told → State → List Command → State
-state_after disk s [] = s
-state_after disk s (command ∷ commands) = state_after disk (step s disk command).state commands
 
 -- the replies to an input
 abbrev pub replies_to : Limits → Told → List ℕ → List ℕ

@@ -22,7 +22,7 @@ shown k = (k.held.space, version_of known k)
 abbrev pub space_shown : Space → ℕ × Version
 space_shown s = (s.number, s.now)
 
--- the greatest revision of all spaces
+-- the greatest revision of these spaces
 abbrev pub highest : List (ℕ × Version) → ℕ
 highest [] = 0
 highest (s ∷ ss) = max s.1.revision (highest ss)

@@ -1,5 +1,5 @@
 -- One line of a session, and the lines that are left.
-use Rattle.std.specs.Prelude.{◌≡◌, ℕ, ◌+◌, ◌-◌, ◌*◌, ◌≤◌, Bool, true, false, List, [], ◌∷◌, ◌++◌, length, take, All, Option, Some, None, IsSome, Result, Ok, Err, ⊤}
+use Rattle.std.specs.Prelude.{◌≡◌, ℕ, ◌+◌, ◌-◌, ◌≤◌, Bool, true, false, List, [], ◌∷◌, ◌++◌, length, take, Option, Some, None, IsSome, Result, Ok, Err, ⊤}
 use Rattle.std.specs.Io.KnownBytes.{append_known, prepend_known}
 use Rattle.ty_model.specs.Disk.{Told}
 use Rattle.ty_model.specs.Held.{Kept}
@@ -9,10 +9,9 @@ use Rattle.tinymist_session.specs.Command.{Command}
 use Rattle.tinymist_session.specs.ByteSink.{TakesFront}
 use Rattle.tinymist_session.specs.Reply.{reply_line}
 use Rattle.tinymist_session.specs.Lf.{IsLine}
-use Rattle.tinymist_session.specs.Machine.{State, Stepped, opening, step}
+use Rattle.tinymist_session.specs.Machine.{State, Stepped, step}
 use Rattle.tinymist_session.specs.Session as session
-use Rattle.tinymist_session.specs.Session.{End, Whole, Bad, Over, lines_of, ended, good_line, good_commands, end_with, replies_from, state_after}
-use Rattle.tinymist_session.specs.declared.limits.Limits.{Limits}
+use Rattle.tinymist_session.specs.Session.{End, Whole, Bad, lines_of, good_line, good_commands, end_with, replies_from}
 use Rattle.tinymist_session.specs.declared.session.SessionFault.{SessionFault}
 use Rattle.tinymist_session.specs.declared.session.SessionFault.TheVariants.{ReadFault, WriteFault, BadLine, Full, OutOfMemory}
 use Rattle.tinymist_session.specs.Run.{EndFits, Written}
@@ -33,10 +32,6 @@ TurnSays stepped old new live views tags (Ok done) = IsShown live views tags ste
 TurnSays stepped old new live views tags (Err fault) = TakesFront old new (reply_line stepped.reply)
 
 -- ---- what is left of an input, where n good lines stood before it
-
--- the limits as the definition has them
-abbrev pub limits_of : Limits → session.Limits
-limits_of l = record { max_line = l.max_line; max_lines = l.max_lines }
 
 -- the commands of lines after n others
 abbrev pub commands_after : session.Limits → ℕ → List (List ℕ) → List Command
@@ -96,34 +91,3 @@ pub record Broken (limits : session.Limits) (rest : List ℕ) (left : Option (Li
   pub cut : Some rest ≡ prepend_known part left
   pub whole : IsLine part
   pub short : length part ≤ limits.max_line
-
--- n good lines of the input stand before the rest
-pub record Front (limits : session.Limits) (input : List ℕ) (n : ℕ) (lines : List (List ℕ)) (rest : List ℕ) : Type 0 where
-  pub cut : input ≡ ended lines ++ rest
-  pub whole : All IsLine lines
-  pub count : length lines ≡ n
-  pub good : length (good_commands limits lines) ≡ length lines
-  pub size : length (ended lines) ≤ n * (limits.max_line + 1)
-
--- n lines of the input were answered, and the rest goes on from there
-pub record Ahead (limits : session.Limits) (input : List ℕ) (n : ℕ) (left : Option (List ℕ)) : Type 0 where
-  pub rest : List ℕ
-  pub lines : List (List ℕ)
-  pub front : Front limits input n lines rest
-  pub left_is : left ≡ Some rest
-  pub same_end : ends limits 0 input ≡ ends limits n rest
-
--- n lines were answered: what was taken, and the replies still to come, are the replies to the input
-pub record Pending (limits : session.Limits) (told : Told) (input : List ℕ) (n : ℕ) (left : Option (List ℕ)) (disk : Option Told) (old new : Option (List ℕ)) (live : Kept MockRootResolver) (views : List (Kept MockRootResolver)) (tags : TaggedIds) : Type 0 where
-  pub rest : List ℕ
-  pub state : State
-  pub done : List ℕ
-  pub lines : List (List ℕ)
-  pub front : Front limits input n lines rest
-  pub state_is : state ≡ state_after told opening (good_commands limits lines)
-  pub done_is : done ≡ replies_from told opening (good_commands limits lines)
-  pub left_is : left ≡ Some rest
-  pub disk_is : disk ≡ Some told
-  pub shown : IsShown live views tags state
-  pub taken : new ≡ append_known old done
-  pub goes_on : replies limits told opening 0 input ≡ done ++ replies limits told state n rest

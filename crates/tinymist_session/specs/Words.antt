@@ -3,7 +3,7 @@ use Rattle.std.specs.Prelude.{ℕ, ◌^◌, nat_lt, if◌then◌else◌, List, [
 use Rattle.std.specs.Option.{option_map, option_and_then, unwrap_or}
 use Rattle.std.specs.Str.{bytes_eq}
 use Rattle.tinymist_session.specs.Grammar.{number_of}
-use Rattle.tinymist_session.specs.Session.{Limits}
+use Rattle.tinymist_session.specs.Session.{Limits, default_limits}
 
 -- the options that were given
 pub record Options : Type 0 where
@@ -43,7 +43,7 @@ options_of (name ∷ value ∷ words) = with_value name (limit_of value) (option
 
 -- the limits with these options, and the default where one isn't given
 abbrev pub limits_with : Options → Limits
-limits_with o = record { max_line = unwrap_or o.max_line 16777216; max_lines = unwrap_or o.max_lines 1000000 }
+limits_with o = record { max_line = unwrap_or o.max_line default_limits.max_line; max_lines = unwrap_or o.max_lines default_limits.max_lines }
 
 -- the limits of a session with these words, if they are those of a session
 abbrev pub limits_of : List (List ℕ) → Option Limits

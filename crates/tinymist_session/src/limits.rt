@@ -2,9 +2,8 @@
 ghost use Rattle.std.specs.Prelude.{◌≡◌, ◌<◌, length, map, Some, None, drop, []};
 ghost use Rattle.std.specs.Option.{option_map, option_and_then};
 ghost use Rattle.std.specs.String.{string_bytes};
-ghost use Rattle.tinymist_session.specs.Turns.{limits_of as plain_limits};
 ghost use Rattle.tinymist_session.specs.Words as words_of;
-ghost use Rattle.tinymist_session.specs.Said.{options_said};
+ghost use Rattle.tinymist_session.specs.Said.{limits_said, options_said};
 
 use crate::words::number;
 
@@ -58,7 +57,7 @@ impl Options {
 
     /// The limits with these options.
     fn limits(self) -> Limits
-        ensures { plain_limits result ≡ words_of.limits_with (options_said self) }
+        ensures { limits_said result ≡ words_of.limits_with (options_said self) }
     {
         Limits {
             max_line: self.max_line.unwrap_or(DEFAULT_LIMITS.max_line),
@@ -94,7 +93,7 @@ fn options_in(words: &[String]) -> Option<Options>
 /// The limits that the words of a session state, if they are such words: none, or `session` and then
 /// `--max-line N` and `--max-lines N` in any order, each at most once.
 pub(crate) fn limits_of(words: &[String]) -> Option<Limits>
-    ensures { option_map plain_limits result ≡ words_of.limits_of (map string_bytes words.now) }
+    ensures { option_map limits_said result ≡ words_of.limits_of (map string_bytes words.now) }
 {
     if words.is_empty() {
         return Some(DEFAULT_LIMITS);

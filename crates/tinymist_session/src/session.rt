@@ -12,7 +12,8 @@ ghost use Rattle.tinymist_session.specs.Session.{end_of, replies_to};
 ghost use Rattle.tinymist_session.specs.Session as plain;
 ghost use Rattle.tinymist_session.specs.Shown.{MachineShows, top_of, next_number};
 ghost use Rattle.tinymist_session.specs.Run.{EndFits, Written, UnlessCutOff, Received, replies_received, TakenWithin, most_bytes};
-ghost use Rattle.tinymist_session.specs.Turns.{TurnReads, TurnSays, PassEnds, PassSays, Broken, ends, replies, limits_of};
+ghost use Rattle.tinymist_session.specs.Turns.{TurnReads, TurnSays, PassEnds, PassSays, Broken, ends, replies};
+ghost use Rattle.tinymist_session.specs.Said.{limits_said};
 
 use crate::command::read_command;
 use crate::limits::Limits;
@@ -133,10 +134,10 @@ impl Session {
         requires room { n < limits.max_lines }
         requires revision { top_of self.old.machine < 2 ^ 63 }
         requires number { next_number self.old.machine.tags < 2 ^ 63 }
-        ensures ends { (rest : List ℕ) → ahead self.old.reader (S.left source.old) ≡ Some rest → PassEnds (limits_of limits) n rest (ahead self.new.reader (S.left source.new)) result }
+        ensures ends { (rest : List ℕ) → ahead self.old.reader (S.left source.old) ≡ Some rest → PassEnds (limits_said limits) n rest (ahead self.new.reader (S.left source.new)) result }
         ensures says { (rest : List ℕ) (told : Told) (s : State) → ahead self.old.reader (S.left source.old) ≡ Some rest → M.told disk.old ≡ Some told → MachineShows self.old.machine s
-            → PassSays (limits_of limits) told s n rest (ahead self.new.reader (S.left source.new)) (W.taken sink.old) (W.taken sink.new) self.new.machine.live self.new.machine.views.items self.new.machine.tags result }
-        ensures received { (rest : List ℕ) → ahead self.old.reader (S.left source.old) ≡ Some rest → IsErrOf result SessionFault.ReadFault → Broken (limits_of limits) rest (S.left source.new) }
+            → PassSays (limits_said limits) told s n rest (ahead self.new.reader (S.left source.new)) (W.taken sink.old) (W.taken sink.new) self.new.machine.live self.new.machine.views.items self.new.machine.tags result }
+        ensures received { (rest : List ℕ) → ahead self.old.reader (S.left source.old) ≡ Some rest → IsErrOf result SessionFault.ReadFault → Broken (limits_said limits) rest (S.left source.new) }
         ensures quiet { IsErrOf result SessionFault.ReadFault → W.taken sink.new ≡ W.taken sink.old }
         ensures bounded { (rest : List ℕ) → ahead self.old.reader (S.left source.old) ≡ Some rest → TakenWithin (limits.max_line + 65536) rest (S.left source.new) }
         ensures left { (told : Told) → M.told disk.old ≡ Some told → IsFixed told → M.told disk.new ≡ Some told }
@@ -203,13 +204,13 @@ impl Session {
         requires revision { top_of self.old.machine ≡ 2 }
         requires number { next_number self.old.machine.tags ≡ 3 }
         requires held { held_of self.old.reader ≡ [] }
-        ensures ends { (input : List ℕ) → S.left source.old ≡ Some input → EndFits (end_of (limits_of limits) input) result }
+        ensures ends { (input : List ℕ) → S.left source.old ≡ Some input → EndFits (end_of (limits_said limits) input) result }
         ensures written { (input : List ℕ) (told : Told) → S.left source.old ≡ Some input → M.told disk.old ≡ Some told → IsFixed told
-            → Written (replies_to (limits_of limits) told input) (W.taken sink.old) (W.taken sink.new) result }
-        ensures received { (input : List ℕ) → S.left source.old ≡ Some input → IsErrOf result SessionFault.ReadFault → Received (limits_of limits) input (S.left source.new) }
+            → Written (replies_to (limits_said limits) told input) (W.taken sink.old) (W.taken sink.new) result }
+        ensures received { (input : List ℕ) → S.left source.old ≡ Some input → IsErrOf result SessionFault.ReadFault → Received (limits_said limits) input (S.left source.new) }
         ensures answered { (input : List ℕ) (told : Told) → S.left source.old ≡ Some input → M.told disk.old ≡ Some told → IsFixed told → IsErrOf result SessionFault.ReadFault
-            → (lines : Received (limits_of limits) input (S.left source.new)) × (W.taken sink.new ≡ append_known (W.taken sink.old) (replies_received (limits_of limits) told input (S.left source.new) lines)) }
-        ensures bounded { (input : List ℕ) → S.left source.old ≡ Some input → TakenWithin (most_bytes (limits_of limits)) input (S.left source.new) }
+            → (lines : Received (limits_said limits) input (S.left source.new)) × (W.taken sink.new ≡ append_known (W.taken sink.old) (replies_received (limits_said limits) told input (S.left source.new) lines)) }
+        ensures bounded { (input : List ℕ) → S.left source.old ≡ Some input → TakenWithin (most_bytes (limits_said limits)) input (S.left source.new) }
         ensures read { OnOk result (IsAtEnd (S.left source.new)) }
         ensures read_cause { IsErrOf result SessionFault.ReadFault → Rose (S.faults source.old) (S.faults source.new) }
         ensures faults { W.faults sink.old ≤ W.faults sink.new }
@@ -227,21 +228,27 @@ impl Session {
     }
 }
 
-/// Flushes what was written, whatever the answer. A failure is one where none came before.
+/// Flushes what was written, but after a fault of the source or the sink, where nothing more is asked of either. A
+/// flush that fails is a write fault, but after want of memory.
 fn finish<W: ByteSink>(sink: &mut W, answer: Result<(), SessionFault>) -> Result<(), SessionFault>
     ensures same { (result ≡ answer) ⊎ (result ≡ Err SessionFault.WriteFault) }
     ensures taken { W.taken sink.new ≡ W.taken sink.old }
     ensures flushed { UnlessCutOff result (IsTrue (W.flushed sink.new)) }
+    ensures untouched { IsErrOf answer SessionFault.ReadFault ⊎ IsErrOf answer SessionFault.WriteFault → sink.new ≡ sink.old }
     ensures faults { W.faults sink.old ≤ W.faults sink.new }
     ensures dry { W.dry sink.old ≤ W.dry sink.new }
     ensures cause { IsErrOf result SessionFault.WriteFault → IsErrOf answer SessionFault.WriteFault ⊎ Rose (W.faults sink.old) (W.faults sink.new) }
 {
-    match sink.flush() {
-        FlushStep::Done => answer,
-        FlushStep::Failed => match answer {
-            Err(SessionFault::ReadFault) => answer,
-            Err(SessionFault::OutOfMemory) => answer,
-            _ => Err(SessionFault::WriteFault),
+    match answer {
+        Err(SessionFault::ReadFault) => answer,
+        Err(SessionFault::WriteFault) => answer,
+        Err(SessionFault::OutOfMemory) => {
+            let _flushed = sink.flush();
+            answer
+        }
+        _ => match sink.flush() {
+            FlushStep::Done => answer,
+            FlushStep::Failed => Err(SessionFault::WriteFault),
         },
     }
 }
@@ -261,13 +268,13 @@ pub fn run_session<S: LineSource, W: ByteSink, M: PathAccessModel>(
     disk: &mut M,
     limits: Limits,
 ) -> Result<(), SessionFault>
-    ensures ends { (input : List ℕ) → S.left source.old ≡ Some input → EndFits (end_of (limits_of limits) input) result }
+    ensures ends { (input : List ℕ) → S.left source.old ≡ Some input → EndFits (end_of (limits_said limits) input) result }
     ensures written { (input : List ℕ) (told : Told) → S.left source.old ≡ Some input → M.told disk.old ≡ Some told → IsFixed told
-        → Written (replies_to (limits_of limits) told input) (W.taken sink.old) (W.taken sink.new) result }
-    ensures received { (input : List ℕ) → S.left source.old ≡ Some input → IsErrOf result SessionFault.ReadFault → Received (limits_of limits) input (S.left source.new) }
+        → Written (replies_to (limits_said limits) told input) (W.taken sink.old) (W.taken sink.new) result }
+    ensures received { (input : List ℕ) → S.left source.old ≡ Some input → IsErrOf result SessionFault.ReadFault → Received (limits_said limits) input (S.left source.new) }
     ensures answered { (input : List ℕ) (told : Told) → S.left source.old ≡ Some input → M.told disk.old ≡ Some told → IsFixed told → IsErrOf result SessionFault.ReadFault
-        → (lines : Received (limits_of limits) input (S.left source.new)) × (W.taken sink.new ≡ append_known (W.taken sink.old) (replies_received (limits_of limits) told input (S.left source.new) lines)) }
-    ensures bounded { (input : List ℕ) → S.left source.old ≡ Some input → TakenWithin (most_bytes (limits_of limits)) input (S.left source.new) }
+        → (lines : Received (limits_said limits) input (S.left source.new)) × (W.taken sink.new ≡ append_known (W.taken sink.old) (replies_received (limits_said limits) told input (S.left source.new) lines)) }
+    ensures bounded { (input : List ℕ) → S.left source.old ≡ Some input → TakenWithin (most_bytes (limits_said limits)) input (S.left source.new) }
     ensures read { OnOk result (IsAtEnd (S.left source.new)) }
     ensures flushed { UnlessCutOff result (IsTrue (W.flushed sink.new)) }
     ensures read_cause { IsErrOf result SessionFault.ReadFault → Rose (S.faults source.old) (S.faults source.new) }

@@ -6,6 +6,7 @@ mod clean;
 mod ids;
 mod memory;
 mod sources;
+mod system;
 
 use crate::{Limits, MemorySink, MemorySource, SessionFault, run_program, run_session};
 use std::alloc::Global;
@@ -38,13 +39,11 @@ fn all_positive(sizes: &[usize]) -> bool
     sizes.iter().all(|size| *size > 0)
 }
 
-/// A source of these bytes, in pieces of these sizes, where none of them is 0.
+/// A source of these bytes, in pieces of these sizes. A size of 0 is a fault of the test.
 fn source_of(alloc: Global, input: &[u8], sizes: Vec<usize>) -> Result<MemorySource, Fail> {
-    let sizes = if all_positive(&sizes) {
-        sizes
-    } else {
-        Vec::new(alloc)
-    };
+    if !all_positive(&sizes) {
+        return Err(Fail::new("a size of 0"));
+    }
     Ok(MemorySource::new(input.to_vec(alloc)?, sizes, Vec::new(alloc)))
 }
 
@@ -265,7 +264,7 @@ fn lines_in_pieces(rt: HostRuntime) -> Result<(), Fail> {
     Ok(())
 }
 
-// The sink takes three bytes, and then nothing.
+// The sink takes three bytes, and then nothing: it is asked for nothing more.
 #[test]
 fn a_sink_that_stops(rt: HostRuntime) -> Result<(), Fail> {
     let mut source = source_of(rt.alloc(), MAP_AND_READ.as_bytes(), Vec::new(rt.alloc()))?;
@@ -273,6 +272,7 @@ fn a_sink_that_stops(rt: HostRuntime) -> Result<(), Fail> {
     let mut sink = MemorySink::new(Vec::new(rt.alloc()), most, Vec::new(rt.alloc()));
     assert_eq!(rt; status_of(rt.alloc(), &mut source, &mut sink)?, 2);
     assert_eq!(rt; sink.bytes(), b"ok\t".as_slice());
+    assert!(rt; !sink.is_flushed());
     Ok(())
 }
 
@@ -374,6 +374,22 @@ fn a_fault_line_that_stops(rt: HostRuntime) -> Result<(), Fail> {
     let (status, _sink) = three_lines(rt.alloc(), &["session", "--max-line", "7"], &mut faults)?;
     assert_eq!(rt; status, 3);
     assert_eq!(rt; faults.bytes(), b"bad".as_slice());
+    Ok(())
+}
+
+#[test]
+fn faults_have_texts(rt: HostRuntime) -> Result<(), Fail> {
+    let rows = [
+        (SessionFault::ReadFault, "read fault"),
+        (SessionFault::WriteFault, "write fault"),
+        (SessionFault::BadLine(7), "bad line 7"),
+        (SessionFault::Full, "too many lines"),
+        (SessionFault::OutOfMemory, "out of memory"),
+    ];
+    for (fault, text) in rows {
+        let printed = format!(in rt.alloc(); "{fault}")?;
+        assert_eq!(rt; printed.as_str(), text);
+    }
     Ok(())
 }
 

@@ -1,7 +1,7 @@
 use Rattle.std.proofs.Common.{◌≡◌, subst}
 use Rattle.tinymist_session.specs.Session.{Limits}
 use Rattle.tinymist_session.specs.Run.{Answered}
-use Rattle.tinymist_session.specs.Turns.{limits_of}
+use Rattle.tinymist_session.specs.Said.{limits_said}
 use Rattle.tinymist_session.proofs.Told.{same_limits, answered_told}
 use Rattle.tinymist_session.proofs.program.run_program.Goals as goal
 
@@ -15,8 +15,8 @@ returns-clause-session g c = λ limits is.
     let reads = g.S.LineSource.faults c.args.source.now in
     let reads' = g.S.LineSource.faults c.run_session-answer.new.source in
     let e = c.run_session-answer.ensures in
-    let same : limits_of c.in-Some.limits ≡ limits = same_limits (limits_of c.in-Some.limits) limits _ (rw c.in-Some.is at c.limits_of.ensures) is in
-    let answered : Answered (limits_of c.in-Some.limits) left left' told (g.W.ByteSink.taken old) (g.W.ByteSink.taken new) (g.W.ByteSink.flushed new) reads reads' (g.W.ByteSink.faults old) (g.W.ByteSink.faults new) (g.W.ByteSink.dry old) (g.W.ByteSink.dry new) c.run_session-answer.result = record {
+    let same : limits_said c.in-Some.limits ≡ limits = same_limits (limits_said c.in-Some.limits) limits _ (rw c.in-Some.is at c.limits_of.ensures) is in
+    let answered : Answered (limits_said c.in-Some.limits) left left' told (g.W.ByteSink.taken old) (g.W.ByteSink.taken new) (g.W.ByteSink.flushed new) reads reads' (g.W.ByteSink.faults old) (g.W.ByteSink.faults new) (g.W.ByteSink.dry old) (g.W.ByteSink.dry new) c.run_session-answer.result = record {
       ends = e.ends;
       written = e.written;
       received = e.received;

@@ -1,6 +1,6 @@
 use Rattle.std.proofs.Common.{◌∙◌}
 use Rattle.tinymist_session.specs.Session.{replies_to}
-use Rattle.tinymist_session.specs.Turns.{limits_of}
+use Rattle.tinymist_session.specs.Said.{limits_said}
 use Rattle.tinymist_session.proofs.Passes.{ends_flushed, written_flushed}
 use Rattle.tinymist_session.proofs.Told.{read_kept}
 use Rattle.tinymist_session.proofs.session.run_session.Goals as goal
@@ -10,7 +10,7 @@ returns-clause-ends g c = λ input is. ends_flushed _ c.run-answer.result c.fini
 
 pub returns-clause-written : goal.returns-clause-written
 returns-clause-written g c = λ input told is disk fixed.
-    written_flushed (replies_to (limits_of c.args.limits) told input) (g.W.ByteSink.taken c.args.sink.now) (g.W.ByteSink.taken c.run-answer.new.sink) (g.W.ByteSink.taken c.finish.new.sink) c.run-answer.result c.finish.result c.finish.ensures.same c.finish.ensures.taken (c.run-answer.ensures.written input told is disk fixed)
+    written_flushed (replies_to (limits_said c.args.limits) told input) (g.W.ByteSink.taken c.args.sink.now) (g.W.ByteSink.taken c.run-answer.new.sink) (g.W.ByteSink.taken c.finish.new.sink) c.run-answer.result c.finish.result c.finish.ensures.same c.finish.ensures.taken (c.run-answer.ensures.written input told is disk fixed)
 
 pub returns-clause-answered : goal.returns-clause-answered
 returns-clause-answered g c = λ input told is disk fixed fault.

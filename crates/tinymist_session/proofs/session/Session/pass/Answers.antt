@@ -7,7 +7,8 @@ use Rattle.tinymist_session.specs.Command.{Command}
 use Rattle.tinymist_session.specs.Session.{lines_of, replies_from}
 use Rattle.tinymist_session.specs.Run.{Written}
 use Rattle.tinymist_session.specs.LineReader.{ahead, line_of}
-use Rattle.tinymist_session.specs.Turns.{limits_of, ends, replies}
+use Rattle.tinymist_session.specs.Turns.{ends, replies}
+use Rattle.tinymist_session.specs.Said.{limits_said}
 use Rattle.tinymist_session.specs.declared.reader.LineReader.{LineReader}
 use Rattle.tinymist_session.proofs.Lines.{end_nothing, commands_nothing, is_good}
 use Rattle.tinymist_session.proofs.Passes.{known_left, some_command, ends_ok, ends_err, replies_ok, written_err, first_lf, first_last, long_ends, long_replies, long_read, nothing_more, at_end}
@@ -25,8 +26,8 @@ returns-in-Ok-clause-ends g c = λ rest is_left.
     let cmd = some_command (command_of line) c.in-Ok.ensures.reads in (
       known.0,
       ap (λ (x : LineReader). ahead x left) c.in-Ok.ensures.reader ∙ known.1,
-      ends_ok (limits_of c.args.limits) c.args.n line rest (lines_of known.0) c.requires.room b.2 first cmd.0 cmd.1,
-      record { line = line; command = cmd.0; cut = known.2; whole = b.1; short = b.2; good = is_good (limits_of c.args.limits) line b.2 ∙ cmd.1 },
+      ends_ok (limits_said c.args.limits) c.args.n line rest (lines_of known.0) c.requires.room b.2 first cmd.0 cmd.1,
+      record { line = line; command = cmd.0; cut = known.2; whole = b.1; short = b.2; good = is_good (limits_said c.args.limits) line b.2 ∙ cmd.1 },
     )
 
 pub returns-in-Ok-clause-says : goal.returns-in-Ok-clause-says
@@ -47,8 +48,8 @@ returns-in-Ok-clause-says g c = λ rest told s is_left is shown.
       left_is = ap (λ (x : LineReader). ahead x left) c.in-Ok.ensures.reader ∙ known.1;
       shown = says.0;
       taken = says.1 ∙ ap (λ k. append_known k (reply_line (step s told cmd.0).reply)) c.read_line.ensures.taken;
-      goes_on = replies_ok (limits_of c.args.limits) c.args.n line rest (lines_of known.0) c.requires.room b.2 first told s cmd.0 cmd.1;
-      first = record { line = line; command = cmd.0; cut = known.2; whole = b.1; short = b.2; good = is_good (limits_of c.args.limits) line b.2 ∙ cmd.1 };
+      goes_on = replies_ok (limits_said c.args.limits) c.args.n line rest (lines_of known.0) c.requires.room b.2 first told s cmd.0 cmd.1;
+      first = record { line = line; command = cmd.0; cut = known.2; whole = b.1; short = b.2; good = is_good (limits_said c.args.limits) line b.2 ∙ cmd.1 };
       stepped = refl;
       said = refl;
     }
@@ -62,7 +63,7 @@ returns-in-Err-clause-ends g c = λ rest is_left.
     let b = c.in-Line.ensures.bytes in
     let known = known_left before (ahead r left) (line ++ 10 ∷ []) rest b.0 is_left in
     let first = first_lf line known.0 rest b.1 known.2 in
-    ends_err (limits_of c.args.limits) c.args.n line rest (lines_of known.0) c.requires.room b.2 first (c.from-number.result + 1) (ap (λ (m : ℕ). m + 1) c.from-number.ensures) c.in-Err.fault c.in-Err.ensures.reads
+    ends_err (limits_said c.args.limits) c.args.n line rest (lines_of known.0) c.requires.room b.2 first (c.from-number.result + 1) (ap (λ (m : ℕ). m + 1) c.from-number.ensures) c.in-Err.fault c.in-Err.ensures.reads
 
 pub returns-in-Err-clause-says : goal.returns-in-Err-clause-says
 returns-in-Err-clause-says g c = λ rest told s is_left is shown.
@@ -73,7 +74,7 @@ returns-in-Err-clause-says g c = λ rest told s is_left is shown.
     let b = c.in-Line.ensures.bytes in
     let known = known_left before (ahead r left) (line ++ 10 ∷ []) rest b.0 is_left in
     let first = first_lf line known.0 rest b.1 known.2 in
-    subst (λ k. Written (replies (limits_of c.args.limits) told s c.args.n rest) k (g.W.ByteSink.taken c.turn.new.sink) (Err c.in-Err.fault)) c.read_line.ensures.taken (written_err (limits_of c.args.limits) c.args.n line rest (lines_of known.0) c.requires.room b.2 first told s (g.W.ByteSink.taken c.read_line.new.sink) (g.W.ByteSink.taken c.turn.new.sink)
+    subst (λ k. Written (replies (limits_said c.args.limits) told s c.args.n rest) k (g.W.ByteSink.taken c.turn.new.sink) (Err c.in-Err.fault)) c.read_line.ensures.taken (written_err (limits_said c.args.limits) c.args.n line rest (lines_of known.0) c.requires.room b.2 first told s (g.W.ByteSink.taken c.read_line.new.sink) (g.W.ByteSink.taken c.turn.new.sink)
     (λ e. c.in-Err.ensures.quiet e)
     (λ command e. c.in-Err.ensures.says told s command is shown e)
     (c.from-number.result + 1) c.in-Err.fault c.in-Err.ensures.reads)
@@ -90,7 +91,7 @@ returns-in-Ok-turn-clause-ends g c = λ rest is_left.
     let all : rest ≡ line = known.2 ∙ ap (λ (next : List ℕ). line ++ next) none ∙ append-nil line in
     let first = first_last line rest b.1 b.3 all in
     let cmd = some_command (command_of line) c.in-Ok-turn.ensures.reads in
-    ends_ok (limits_of c.args.limits) c.args.n line rest [] c.requires.room b.2 first cmd.0 cmd.1 ∙ end_nothing (limits_of c.args.limits) (c.args.n + 1)
+    ends_ok (limits_said c.args.limits) c.args.n line rest [] c.requires.room b.2 first cmd.0 cmd.1 ∙ end_nothing (limits_said c.args.limits) (c.args.n + 1)
 
 pub returns-in-Ok-turn-clause-says : goal.returns-in-Ok-turn-clause-says
 returns-in-Ok-turn-clause-says g c = λ rest told s is_left is shown.
@@ -106,7 +107,7 @@ returns-in-Ok-turn-clause-says g c = λ rest told s is_left is shown.
     let cmd = some_command (command_of line) c.in-Ok-turn.ensures.reads in
     let says = c.in-Ok-turn.ensures.says told s cmd.0 is shown cmd.1 in
     says.1 ∙ ap (λ k. append_known k (reply_line (step s told cmd.0).reply)) c.read_line.ensures.taken
-    ∙ ap (append_known (g.W.ByteSink.taken c.args.sink.now)) (sym (replies_ok (limits_of c.args.limits) c.args.n line rest [] c.requires.room b.2 first told s cmd.0 cmd.1 ∙ ap (λ (cs : List Command). reply_line (step s told cmd.0).reply ++ replies_from told (step s told cmd.0).state cs) (commands_nothing (limits_of c.args.limits) (c.args.n + 1)) ∙ append-nil (reply_line (step s told cmd.0).reply)))
+    ∙ ap (append_known (g.W.ByteSink.taken c.args.sink.now)) (sym (replies_ok (limits_said c.args.limits) c.args.n line rest [] c.requires.room b.2 first told s cmd.0 cmd.1 ∙ ap (λ (cs : List Command). reply_line (step s told cmd.0).reply ++ replies_from told (step s told cmd.0).state cs) (commands_nothing (limits_said c.args.limits) (c.args.n + 1)) ∙ append-nil (reply_line (step s told cmd.0).reply)))
 
 pub returns-in-Err-turn-clause-ends : goal.returns-in-Err-turn-clause-ends
 returns-in-Err-turn-clause-ends g c = λ rest is_left.
@@ -119,7 +120,7 @@ returns-in-Err-turn-clause-ends g c = λ rest is_left.
     let none = at_end (ahead r left) known.0 known.1 b.4 in
     let all : rest ≡ line = known.2 ∙ ap (λ (next : List ℕ). line ++ next) none ∙ append-nil line in
     let first = first_last line rest b.1 b.3 all in
-    ends_err (limits_of c.args.limits) c.args.n line rest [] c.requires.room b.2 first (c.from-number.result + 1) (ap (λ (m : ℕ). m + 1) c.from-number.ensures) c.in-Err-turn.fault c.in-Err-turn.ensures.reads
+    ends_err (limits_said c.args.limits) c.args.n line rest [] c.requires.room b.2 first (c.from-number.result + 1) (ap (λ (m : ℕ). m + 1) c.from-number.ensures) c.in-Err-turn.fault c.in-Err-turn.ensures.reads
 
 pub returns-in-Err-turn-clause-says : goal.returns-in-Err-turn-clause-says
 returns-in-Err-turn-clause-says g c = λ rest told s is_left is shown.
@@ -132,7 +133,7 @@ returns-in-Err-turn-clause-says g c = λ rest told s is_left is shown.
     let none = at_end (ahead r left) known.0 known.1 b.4 in
     let all : rest ≡ line = known.2 ∙ ap (λ (next : List ℕ). line ++ next) none ∙ append-nil line in
     let first = first_last line rest b.1 b.3 all in
-    subst (λ k. Written (replies (limits_of c.args.limits) told s c.args.n rest) k (g.W.ByteSink.taken c.turn-in-Last.new.sink) (Err c.in-Err-turn.fault)) c.read_line.ensures.taken (written_err (limits_of c.args.limits) c.args.n line rest [] c.requires.room b.2 first told s (g.W.ByteSink.taken c.read_line.new.sink) (g.W.ByteSink.taken c.turn-in-Last.new.sink)
+    subst (λ k. Written (replies (limits_said c.args.limits) told s c.args.n rest) k (g.W.ByteSink.taken c.turn-in-Last.new.sink) (Err c.in-Err-turn.fault)) c.read_line.ensures.taken (written_err (limits_said c.args.limits) c.args.n line rest [] c.requires.room b.2 first told s (g.W.ByteSink.taken c.read_line.new.sink) (g.W.ByteSink.taken c.turn-in-Last.new.sink)
     (λ e. c.in-Err-turn.ensures.quiet e)
     (λ command e. c.in-Err-turn.ensures.says told s command is shown e)
     (c.from-number.result + 1) c.in-Err-turn.fault c.in-Err-turn.ensures.reads)
@@ -145,7 +146,7 @@ returns-in-TooLong-clause-ends g c = λ rest is_left.
     let line = line_of r in
     let b = c.in-TooLong.ensures.bytes in
     let known = known_left before (ahead r left) (line ++ b.0) rest b.1 is_left in
-    rw c.from-number.ensures (long_ends (limits_of c.args.limits) c.args.n line (b.0 ++ known.0) rest c.requires.room b.3 b.2 (long_read line b.0 known.0 rest known.2))
+    rw c.from-number.ensures (long_ends (limits_said c.args.limits) c.args.n line (b.0 ++ known.0) rest c.requires.room b.3 b.2 (long_read line b.0 known.0 rest known.2))
 
 pub returns-in-TooLong-clause-says : goal.returns-in-TooLong-clause-says
 returns-in-TooLong-clause-says g c = λ rest told s is_left is shown.
@@ -155,16 +156,16 @@ returns-in-TooLong-clause-says g c = λ rest told s is_left is shown.
     let line = line_of r in
     let b = c.in-TooLong.ensures.bytes in
     let known = known_left before (ahead r left) (line ++ b.0) rest b.1 is_left in
-    c.read_line.ensures.taken ∙ nothing_more (g.W.ByteSink.taken c.args.sink.now) _ (long_replies (limits_of c.args.limits) c.args.n line (b.0 ++ known.0) rest c.requires.room b.3 b.2 (long_read line b.0 known.0 rest known.2) told s)
+    c.read_line.ensures.taken ∙ nothing_more (g.W.ByteSink.taken c.args.sink.now) _ (long_replies (limits_said c.args.limits) c.args.n line (b.0 ++ known.0) rest c.requires.room b.3 b.2 (long_read line b.0 known.0 rest known.2) told s)
 
 pub returns-in-End-clause-ends : goal.returns-in-End-clause-ends
 returns-in-End-clause-ends g c = λ rest is_left.
     let b = c.in-End.ensures.bytes in
     let none = at_end _ rest (sym b.0 ∙ is_left) b.1 in
-    ap (ends (limits_of c.args.limits) c.args.n) none ∙ end_nothing (limits_of c.args.limits) c.args.n
+    ap (ends (limits_said c.args.limits) c.args.n) none ∙ end_nothing (limits_said c.args.limits) c.args.n
 
 pub returns-in-End-clause-says : goal.returns-in-End-clause-says
 returns-in-End-clause-says g c = λ rest told s is_left is shown.
     let b = c.in-End.ensures.bytes in
     let none = at_end _ rest (sym b.0 ∙ is_left) b.1 in
-    c.read_line.ensures.taken ∙ nothing_more (g.W.ByteSink.taken c.args.sink.now) _ (ap (replies (limits_of c.args.limits) told s c.args.n) none ∙ ap (replies_from told s) (commands_nothing (limits_of c.args.limits) c.args.n))
+    c.read_line.ensures.taken ∙ nothing_more (g.W.ByteSink.taken c.args.sink.now) _ (ap (replies (limits_said c.args.limits) told s c.args.n) none ∙ ap (replies_from told s) (commands_nothing (limits_said c.args.limits) c.args.n))
