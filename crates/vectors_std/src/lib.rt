@@ -1,0 +1,2 @@
+//! Tests of `tinymist_std` through its public calls: worked rows as tables, by topic.
+#![tactic(auto)]

@@ -1,0 +1,2 @@
+//! Tests of paths, ids, sources, maps and disks through their public calls: worked rows as tables, by topic.
+#![tactic(auto)]
