@@ -19,6 +19,3 @@ mod version;
 
 pub use rows::{WorkedSession, map_and_read, no_line, two_views};
 pub use session::{End, PlainSession, plain_session};
-
-#[cfg(test)]
-mod tests;

@@ -82,6 +82,18 @@ pub first_last : (line rest : List ℕ) → IsLine line → 0 < length line → 
 first_last [] rest plain some e = absurd (omega arith)
 first_last (b ∷ bs) rest plain some e = ap lines_of e ∙ lines-last b bs plain
 
+-- what a line that LF ends leaves of the input
+pub record WholeLine (after : Option (List ℕ)) (line rest : List ℕ) : Type 0 where
+  pub next : List ℕ
+  pub left_is : after ≡ Some next
+  pub cut : rest ≡ (line ++ 10 ∷ []) ++ next
+  pub first : lines_of rest ≡ line ∷ lines_of next
+
+pub whole_line : (before after : Option (List ℕ)) (line rest : List ℕ) → before ≡ prepend_known (line ++ 10 ∷ []) after → IsLine line → before ≡ Some rest → WholeLine after line rest
+whole_line before after line rest e plain is =
+    let known = known_left before after (line ++ 10 ∷ []) rest e is in
+    record { next = known.0; left_is = known.1; cut = known.2; first = first_lf line known.0 rest plain known.2 }
+
 module _ (limits : session.Limits) (n : ℕ) (line next rest : List ℕ) (room : n < limits.max_lines) (long : limits.max_line < length line) (plain : IsLine line) (e : rest ≡ line ++ next) where
   first_long : (line' : List ℕ) → line ≡ line' → (more : List ℕ) × (lines : List (List ℕ)) × (lines_of rest ≡ (line ++ more) ∷ lines)
   first_long [] is = absurd (omega (arith, ap length is))
@@ -99,6 +111,13 @@ nothing_more known all e = append-nil_known known ∙ ap (append_known known) (s
 pub at_end : (known : Option (List ℕ)) (next : List ℕ) → known ≡ Some next → IsAtEnd known → next ≡ []
 at_end None next e h = absurd (cc)
 at_end (Some xs) next e h = let same : xs ≡ next = cc in sym same ∙ h
+
+-- a last line without LF is the only one
+pub only_line : (before after : Option (List ℕ)) (line rest : List ℕ) → before ≡ prepend_known line after → IsLine line → 0 < length line → IsAtEnd after → before ≡ Some rest → lines_of rest ≡ line ∷ []
+only_line before after line rest e plain some done is =
+    let known = known_left before after line rest e is in
+    let none = at_end after known.0 known.1 done in
+    first_last line rest plain some (known.2 ∙ ap (λ (next : List ℕ). line ++ next) none ∙ append-nil line)
 
 -- a line of which more bytes follow
 pub long_read : (line more next rest : List ℕ) → rest ≡ (line ++ more) ++ next → rest ≡ line ++ (more ++ next)

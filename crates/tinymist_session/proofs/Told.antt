@@ -3,7 +3,11 @@ use Rattle.std.proofs.Common.{◌≡◌, ◌⊎◌, ℕ, ◌≤◌, Bool, true, 
 use Rattle.std.specs.Io.KnownBytes.{append_known}
 use Rattle.ty_model.specs.Disk.{Told}
 use Rattle.ty_model.specs.Faults.{Rose}
-use Rattle.tinymist_session.specs.ByteSink.{TakesFront}
+use Rattle.std.specs.Prelude.{IsTrue}
+use Rattle.tinymist_session.specs.declared.sink.FlushStep.{FlushStep}
+use Rattle.tinymist_session.specs.declared.sink.FlushStep.TheVariants.{Done, Failed}
+use Rattle.tinymist_session.specs.LineSource.{HasCause}
+use Rattle.tinymist_session.specs.ByteSink.{TakesFront, flushed_by, IsFailedFlush}
 use Rattle.tinymist_session.specs.Session.{Limits, replies_to}
 use Rattle.tinymist_session.specs.declared.session.SessionFault.{SessionFault}
 use Rattle.tinymist_session.specs.declared.session.SessionFault.TheVariants.{ReadFault, WriteFault, BadLine, OutOfMemory}
@@ -13,13 +17,22 @@ use Rattle.tinymist_session.proofs.Passes.{front, some_written}
 later : (a b c : ℕ) → Rose a b → b ≤ c → Rose a c
 later a b c h k = omega (arith, h, k)
 
+pub sooner : (a b c : ℕ) → a ≤ b → Rose b c → Rose a c
+sooner a b c h k = omega (arith, h, k)
+
+-- a flush is done, or its count rose
+pub flushed_or_rose : (r : FlushStep) (old new : Bool) (before now : ℕ) → new ≡ flushed_by old r → HasCause (IsFailedFlush r) before now → IsTrue new ⊎ Rose before now
+flushed_or_rose Done old new before now e h = inl e
+flushed_or_rose Failed old new before now e h = inr (h.cause tt)
+
 -- a line that was offered until the sink had taken it or had failed
-pub is_told : (line piece : List ℕ) (old mid new : Option (List ℕ)) (faults mid_faults faults' dry mid_dry dry' : ℕ) (all : Bool) → piece ≡ line
+pub is_told : (line piece : List ℕ) (old mid new : Option (List ℕ)) (flushed' : Bool) (faults mid_faults faults' dry mid_dry dry' : ℕ) (all : Bool) → piece ≡ line
     → (all ≡ true → mid ≡ append_known old piece) → TakesFront old mid piece → (all ≡ false → Rose faults mid_faults ⊎ Rose dry mid_dry)
-    → new ≡ mid → mid_faults ≤ faults' → mid_dry ≤ dry' → IsTold line old new faults faults' dry dry'
-is_told line piece old mid new faults mid_faults faults' dry mid_dry dry' all same whole some cause e f d = record {
+    → new ≡ mid → faults ≤ mid_faults → mid_faults ≤ faults' → mid_dry ≤ dry' → IsTrue flushed' ⊎ Rose mid_faults faults' → IsTold line old new flushed' faults faults' dry dry'
+is_told line piece old mid new flushed' faults mid_faults faults' dry mid_dry dry' all same whole some cause e o f d gone = record {
   front = rw e (front old mid piece [] line some (sym same ∙ sym (append-nil piece)));
   whole = rw e (told all refl);
+  gone_on = inr (elim gone [ inl h ↦ inl h | inr h ↦ inr (sooner faults mid_faults faults' o h) ]);
 }
   where
     told : (b : Bool) → all ≡ b → (mid ≡ append_known old line) ⊎ (Rose faults faults' ⊎ Rose dry dry')
@@ -46,6 +59,7 @@ module _ (limits : Limits) (left left' : Option (List ℕ)) (disk : Option Told)
     bounded = a.bounded;
     read = tt;
     was_flushed = tt;
+    was_flushed_without_memory = λ e. inl a.was_flushed;
     read_cause = λ e. absurd (cc);
     write_cause = λ e. absurd (cc);
   }

@@ -1,6 +1,7 @@
 pub mod LineSource
 pub mod ByteSink
 pub mod Memory
+pub mod System
 pub mod Lf
 pub mod LineReader
 pub mod Command

@@ -216,3 +216,18 @@ target_of (Clean target r words) = None
 -- a step leaves each space but its target as it was, and a view that is there stays
 abbrev pub LeavesOthers : Type 0
 LeavesOthers = (disk : Told) (s : State) (command : Command) (k : ℕ) (space : Space) → target_of command ≢ Some k → space_at s k ≡ Some space → space_at (step s disk command).state k ≡ Some space
+
+-- the space that a command edits, if any; a command that reads edits none
+abbrev pub edited_space : Command → Option ℕ
+edited_space (Edit target item) = Some target
+edited_space (MapId target word content) = Some target
+edited_space (UnmapId target word) = Some target
+edited_space (Rootless vpath) = None
+edited_space Snapshot = None
+edited_space (Read view word) = None
+edited_space (Source view word) = None
+edited_space (Line view word offset) = None
+edited_space (Paths target) = None
+edited_space (Ids target) = None
+edited_space (Path target word) = None
+edited_space (Clean target r words) = None

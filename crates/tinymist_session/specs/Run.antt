@@ -85,6 +85,8 @@ pub record Answered (limits : session.Limits) (left left' : Option (List ℕ)) (
   pub read : OnOk r (IsAtEnd left')
   -- what was written has gone on
   pub was_flushed : UnlessCutOff r (IsTrue flushed')
+  -- so it has where memory ran out, or the flush failed
+  pub was_flushed_without_memory : IsErrOf r OutOfMemory → IsTrue flushed' ⊎ Rose faults faults'
   -- faults have their causes
   pub read_cause : IsErrOf r ReadFault → Rose reads reads'
   pub write_cause : IsErrOf r WriteFault → Rose faults faults' ⊎ Rose dry dry'
@@ -115,7 +117,8 @@ fault_line (Err fault) = fault_text fault ++ 10 ∷ []
 abbrev pub bad_words_line : List ℕ
 bad_words_line = codes "bad words" ++ 10 ∷ []
 
--- a sink was told this line: it took all of it unless it failed, and else a front of it
-pub record IsTold (line : List ℕ) (old new : Option (List ℕ)) (faults faults' dry dry' : ℕ) : Type 0 where
+-- a sink was told this line: it took all of it and flushed it, unless it failed, and else a prefix of it
+pub record IsTold (line : List ℕ) (old new : Option (List ℕ)) (flushed' : Bool) (faults faults' dry dry' : ℕ) : Type 0 where
   pub front : TakesPrefix old new line
   pub whole : (new ≡ append_known old line) ⊎ (Rose faults faults' ⊎ Rose dry dry')
+  pub gone_on : (line ≡ []) ⊎ (IsTrue flushed' ⊎ Rose faults faults')

@@ -1,5 +1,5 @@
 -- What the code keeps of a state: for each space its number, its last version and change revisions, and what has a tag.
-use Rattle.std.specs.Prelude.{◌≡◌, ℕ, ◌-◌, ◌==◌, if◌then◌else◌, List, [], ◌∷◌, map, max, slice_get, Option, Some, None}
+use Rattle.std.specs.Prelude.{◌≡◌, ◌≢◌, ℕ, ◌-◌, ◌==◌, if◌then◌else◌, List, [], ◌∷◌, map, max, slice_get, Option, Some, None}
 use Rattle.std.specs.FinMap as finmap
 use Rattle.ty_model.specs.Places.{Resolver}
 use Rattle.ty_model.specs.Version.{Version}
@@ -70,3 +70,8 @@ kept_at views k = if k == 0 then None else slice_get views (k - 1)
 -- what is kept of a target
 abbrev pub target_kept : Kept MockRootResolver → List (Kept MockRootResolver) → ℕ → Option (Kept MockRootResolver)
 target_kept live views target = if target == 0 then Some live else kept_at views target
+
+-- each space that is there, but a target, is kept as it was
+abbrev pub KeepsOthers : Option ℕ → Machine → Machine → Type 0
+KeepsOthers target before after = (k : ℕ) (space : Kept MockRootResolver) → target ≢ Some k
+    → target_kept before.live before.views.items k ≡ Some space → target_kept after.live after.views.items k ≡ Some space

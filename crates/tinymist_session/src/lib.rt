@@ -20,8 +20,6 @@ mod source;
 mod space;
 mod system;
 mod tagged;
-#[cfg(test)]
-mod tests;
 mod words;
 
 pub use change_set::CleanChanges;

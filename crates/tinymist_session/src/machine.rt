@@ -1,5 +1,5 @@
 //! The machine that answers commands: the live state, the views taken of it, and the ids that have a tag.
-ghost use Rattle.std.specs.Prelude.{◌≡◌, ◌+◌, ◌-◌, ◌^◌, ◌<◌, ◌≤◌, ◌++◌, ◌∷◌, [], length, map, Option, IfOk, OnOk, Some};
+ghost use Rattle.std.specs.Prelude.{◌≡◌, ◌+◌, ◌-◌, ◌^◌, ◌<◌, ◌≤◌, ◌++◌, ◌∷◌, [], length, map, Option, IfOk, OnOk, Some, None};
 ghost use Rattle.std.specs.Option.{option_map, option_copied};
 ghost use Rattle.ty_model.specs.Batch as batch;
 ghost use Rattle.ty_model.specs.Disk.{Told, IsFixed};
@@ -7,7 +7,7 @@ ghost use Rattle.tinymist_session.specs.Grammar.{answer_at};
 ghost use Rattle.tinymist_session.specs.Machine as plain;
 ghost use Rattle.tinymist_session.specs.Reply as plain_reply;
 ghost use Rattle.tinymist_session.specs.Said.{reply_of, command_of, edit_said, content_said, id_said};
-ghost use Rattle.tinymist_session.specs.Shown.{MachineShows, kept_at, target_kept, top_of, next_number};
+ghost use Rattle.tinymist_session.specs.Shown.{MachineShows, KeepsOthers, kept_at, target_kept, top_of, next_number};
 
 use crate::command::Command;
 use crate::content::{ContentWord, IdWord};
@@ -60,6 +60,7 @@ impl Machine {
         requires number { next_number self.old.tags < 2 ^ 64 - 1 }
         ensures reply { (told : Told) (s : plain.State) → M.told disk.old ≡ Some told → MachineShows self.old s → IfOk result (λ r. reply_of r ≡ (plain.step s told (command_of command)).reply) }
         ensures state { (told : Told) (s : plain.State) → M.told disk.old ≡ Some told → MachineShows self.old s → OnOk result (MachineShows self.new (plain.step s told (command_of command)).state) }
+        ensures others { KeepsOthers (plain.edited_space (command_of command)) self.old self.new }
         ensures left { (told : Told) → M.told disk.old ≡ Some told → IsFixed told → M.told disk.new ≡ Some told }
         ensures revision { top_of self.new ≤ top_of self.old + 1 }
         ensures number { next_number self.new.tags ≤ next_number self.old.tags + 1 }
@@ -91,6 +92,7 @@ impl Machine {
         requires { top_of self.old < 2 ^ 64 - 1 }
         ensures reply { (s : plain.State) → MachineShows self.old s → IfOk result (λ r. reply_of r ≡ (plain.edit_step s target (edit_said edit)).reply) }
         ensures state { (s : plain.State) → MachineShows self.old s → OnOk result (MachineShows self.new (plain.edit_step s target (edit_said edit)).state) }
+        ensures others { KeepsOthers (Some target) self.old self.new }
         ensures revision { top_of self.new ≤ top_of self.old + 1 }
         ensures tags { self.new.tags ≡ self.old.tags }
     {
@@ -116,6 +118,7 @@ impl Machine {
         requires { top_of self.old < 2 ^ 64 - 1 }
         ensures reply { (s : plain.State) → MachineShows self.old s → IfOk result (λ r. reply_of r ≡ (plain.id_edit_step s target (id_said word.now) (λ id. batch.MapId id (answer_at id.vpath (content_said content)))).reply) }
         ensures state { (s : plain.State) → MachineShows self.old s → OnOk result (MachineShows self.new (plain.id_edit_step s target (id_said word.now) (λ id. batch.MapId id (answer_at id.vpath (content_said content)))).state) }
+        ensures others { KeepsOthers (Some target) self.old self.new }
         ensures revision { top_of self.new ≤ top_of self.old + 1 }
         ensures tags { self.new.tags ≡ self.old.tags }
     {
@@ -134,6 +137,7 @@ impl Machine {
         requires { top_of self.old < 2 ^ 64 - 1 }
         ensures reply { (s : plain.State) → MachineShows self.old s → IfOk result (λ r. reply_of r ≡ (plain.id_edit_step s target (id_said word.now) batch.UnmapId).reply) }
         ensures state { (s : plain.State) → MachineShows self.old s → OnOk result (MachineShows self.new (plain.id_edit_step s target (id_said word.now) batch.UnmapId).state) }
+        ensures others { KeepsOthers (Some target) self.old self.new }
         ensures revision { top_of self.new ≤ top_of self.old + 1 }
         ensures tags { self.new.tags ≡ self.old.tags }
     {
@@ -151,6 +155,7 @@ impl Machine {
         requires { self.old.tags.counters.next_space < 2 ^ 64 - 1 }
         ensures reply { (s : plain.State) → MachineShows self.old s → IfOk result (λ n. plain_reply.ViewNumber n ≡ (plain.snapshot_step s).reply) }
         ensures state { (s : plain.State) → MachineShows self.old s → OnOk result (MachineShows self.new (plain.snapshot_step s).state) }
+        ensures others { KeepsOthers None self.old self.new }
         ensures revision { top_of self.new ≤ top_of self.old }
         ensures number { next_number self.new.tags ≤ next_number self.old.tags + 1 }
     {

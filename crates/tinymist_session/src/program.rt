@@ -37,11 +37,11 @@ pub fn run_program<S: LineSource, W: ByteSink, F: ByteSink, M: PathAccessModel>(
 ) -> u8
     ensures bad_words { (result ≡ 6) ↔ (limits_in (map string_bytes words.now) ≡ None) }
     ensures untouched { result ≡ 6 → (source.new ≡ source.old) × (sink.new ≡ sink.old) × (disk.new ≡ disk.old) }
-    ensures refused { result ≡ 6 → IsTold bad_words_line (F.taken faults.old) (F.taken faults.new) (F.faults faults.old) (F.faults faults.new) (F.dry faults.old) (F.dry faults.new) }
+    ensures refused { result ≡ 6 → IsTold bad_words_line (F.taken faults.old) (F.taken faults.new) (F.flushed faults.new) (F.faults faults.old) (F.faults faults.new) (F.dry faults.old) (F.dry faults.new) }
     ensures session { (limits : Limits) → limits_in (map string_bytes words.now) ≡ Some limits → (r : Result (Unit {0}) SessionFault) × (result ≡ status_of r)
         × Answered limits (S.left source.old) (S.left source.new) (M.told disk.old) (W.taken sink.old) (W.taken sink.new) (W.flushed sink.new)
         (S.faults source.old) (S.faults source.new) (W.faults sink.old) (W.faults sink.new) (W.dry sink.old) (W.dry sink.new) r
-        × IsTold (fault_line r) (F.taken faults.old) (F.taken faults.new) (F.faults faults.old) (F.faults faults.new) (F.dry faults.old) (F.dry faults.new) }
+        × IsTold (fault_line r) (F.taken faults.old) (F.taken faults.new) (F.flushed faults.new) (F.faults faults.old) (F.faults faults.new) (F.dry faults.old) (F.dry faults.new) }
 {
     let Some(limits) = limits_of(words) else {
         return bad_words(faults);
@@ -53,7 +53,7 @@ pub fn run_program<S: LineSource, W: ByteSink, F: ByteSink, M: PathAccessModel>(
 /// Tells that the words are of no stated form, and answers the status.
 pub fn bad_words<F: ByteSink>(faults: &mut F) -> u8
     ensures status { result ≡ 6 }
-    ensures told { IsTold bad_words_line (F.taken faults.old) (F.taken faults.new) (F.faults faults.old) (F.faults faults.new) (F.dry faults.old) (F.dry faults.new) }
+    ensures told { IsTold bad_words_line (F.taken faults.old) (F.taken faults.new) (F.flushed faults.new) (F.faults faults.old) (F.faults faults.new) (F.dry faults.old) (F.dry faults.new) }
 {
     tell(faults, "bad words\n");
     BAD_WORDS
@@ -62,7 +62,7 @@ pub fn bad_words<F: ByteSink>(faults: &mut F) -> u8
 /// Tells that no memory was left, and answers the status.
 pub fn out_of_memory<F: ByteSink>(faults: &mut F) -> u8
     ensures status { result ≡ 5 }
-    ensures told { IsTold (fault_line (Err SessionFault.OutOfMemory)) (F.taken faults.old) (F.taken faults.new) (F.faults faults.old) (F.faults faults.new) (F.dry faults.old) (F.dry faults.new) }
+    ensures told { IsTold (fault_line (Err SessionFault.OutOfMemory)) (F.taken faults.old) (F.taken faults.new) (F.flushed faults.new) (F.faults faults.old) (F.faults faults.new) (F.dry faults.old) (F.dry faults.new) }
 {
     tell(faults, NO_MEMORY);
     OUT_OF_MEMORY
@@ -75,7 +75,7 @@ fn tell_answer<F: ByteSink>(
     answer: Result<(), SessionFault>,
 ) -> Result<(), SessionFault>
     ensures same { (result ≡ answer) ⊎ ((n : ℕ) × (answer ≡ Err (SessionFault.BadLine n)) × (result ≡ Err SessionFault.OutOfMemory)) }
-    ensures told { IsTold (fault_line result) (F.taken faults.old) (F.taken faults.new) (F.faults faults.old) (F.faults faults.new) (F.dry faults.old) (F.dry faults.new) }
+    ensures told { IsTold (fault_line result) (F.taken faults.old) (F.taken faults.new) (F.flushed faults.new) (F.faults faults.old) (F.faults faults.new) (F.dry faults.old) (F.dry faults.new) }
 {
     match answer {
         Ok(()) => {}
@@ -96,7 +96,7 @@ fn tell_answer<F: ByteSink>(
 
 /// Tells a line, as far as the sink takes it.
 fn tell<F: ByteSink>(faults: &mut F, line: &str)
-    ensures { IsTold line.now (F.taken faults.old) (F.taken faults.new) (F.faults faults.old) (F.faults faults.new) (F.dry faults.old) (F.dry faults.new) }
+    ensures { IsTold line.now (F.taken faults.old) (F.taken faults.new) (F.flushed faults.new) (F.faults faults.old) (F.faults faults.new) (F.dry faults.old) (F.dry faults.new) }
 {
     let _taken = write_all(faults, line.as_bytes());
     let _flushed = faults.flush();

@@ -1,5 +1,5 @@
 //! Lines of a source, which is read a piece at a time.
-ghost use Rattle.std.specs.Prelude.{◌≡◌, ℕ, List, Some, ◌+◌, ◌-◌, ◌<◌, ◌≤◌, ◌++◌, ◌∷◌, [], IfOk, OnOk, IfSome, IfNone, length, take, drop, slice_range, true};
+ghost use Rattle.std.specs.Prelude.{◌≡◌, ◌⊎◌, ℕ, List, Some, ◌+◌, ◌-◌, ◌<◌, ◌≤◌, ◌++◌, ◌∷◌, [], IfOk, OnOk, IfSome, IfNone, length, take, drop, slice_range, true, IsTrue};
 ghost use Rattle.tinymist_session.specs.LineSource.{HasCause};
 ghost use Rattle.tinymist_session.specs.Lf.{IsLine};
 ghost use Rattle.tinymist_session.specs.Run.{TakenWithin};
@@ -183,9 +183,10 @@ impl LineReader {
         self.is_gathered = true;
     }
 
-    /// Flushes the sink, and fills the piece from the source.
+    /// Flushes the sink, so that what was answered has gone on, and then fills the piece from the source.
     fn fill<S: LineSource, W: ByteSink>(&mut self, source: &mut S, sink: &mut W) -> Filled
         requires { held_of self.old ≡ [] }
+        ensures flushed { (result ≡ Filled.FlushFailed) ⊎ IsTrue (W.flushed sink.new) }
         ensures bytes { Fills (S.left source.old) (S.left source.new) (held_of self.new) result }
         ensures bounded { (rest : List ℕ) → S.left source.old ≡ Some rest → TakenWithin 65536 rest (S.left source.new) }
         ensures line { (self.new.gathered.items ≡ self.old.gathered.items) × (self.new.is_gathered ≡ self.old.is_gathered) }

@@ -230,10 +230,12 @@ impl Session {
 
 /// Flushes what was written, but after a fault of the source or the sink, where nothing more is asked of either. A
 /// flush that fails is a write fault, but after want of memory.
+#[tactic(auto, using(crate::proofs::Told::flushed_or_rose))]
 fn finish<W: ByteSink>(sink: &mut W, answer: Result<(), SessionFault>) -> Result<(), SessionFault>
     ensures same { (result ≡ answer) ⊎ (result ≡ Err SessionFault.WriteFault) }
     ensures taken { W.taken sink.new ≡ W.taken sink.old }
     ensures flushed { UnlessCutOff result (IsTrue (W.flushed sink.new)) }
+    ensures flushed_without_memory { IsErrOf answer SessionFault.OutOfMemory → IsTrue (W.flushed sink.new) ⊎ Rose (W.faults sink.old) (W.faults sink.new) }
     ensures untouched { IsErrOf answer SessionFault.ReadFault ⊎ IsErrOf answer SessionFault.WriteFault → sink.new ≡ sink.old }
     ensures faults { W.faults sink.old ≤ W.faults sink.new }
     ensures dry { W.dry sink.old ≤ W.dry sink.new }
@@ -259,7 +261,8 @@ fn finish<W: ByteSink>(sink: &mut W, answer: Result<(), SessionFault>) -> Result
 /// # Errors
 ///
 /// `BadLine(n)` and `Full` exactly where the input ends so, `ReadFault` and `WriteFault` only where a count
-/// of the source or the sink rose, and want of memory.
+/// of the source or the sink rose, and out of memory, after which what was
+/// answered is flushed too.
 #[tactic(auto, using(crate::proofs::Others::leaves_others))]
 pub fn run_session<S: LineSource, W: ByteSink, M: PathAccessModel>(
     alloc: Global,
@@ -277,13 +280,14 @@ pub fn run_session<S: LineSource, W: ByteSink, M: PathAccessModel>(
     ensures bounded { (input : List ℕ) → S.left source.old ≡ Some input → TakenWithin (most_bytes (limits_said limits)) input (S.left source.new) }
     ensures read { OnOk result (IsAtEnd (S.left source.new)) }
     ensures flushed { UnlessCutOff result (IsTrue (W.flushed sink.new)) }
+    ensures flushed_without_memory { IsErrOf result SessionFault.OutOfMemory → IsTrue (W.flushed sink.new) ⊎ Rose (W.faults sink.old) (W.faults sink.new) }
     ensures read_cause { IsErrOf result SessionFault.ReadFault → Rose (S.faults source.old) (S.faults source.new) }
     ensures write_cause { IsErrOf result SessionFault.WriteFault → Rose (W.faults sink.old) (W.faults sink.new) ⊎ Rose (W.dry sink.old) (W.dry sink.new) }
     ensures others { LeavesOthers }
 {
     let mut session = match Session::new(alloc) {
         Ok(session) => session,
-        Err(OutOfMemory) => return Err(SessionFault::OutOfMemory),
+        Err(OutOfMemory) => return finish(sink, Err(SessionFault::OutOfMemory)),
     };
     let answer = session.run(source, sink, disk, limits);
     finish(sink, answer)

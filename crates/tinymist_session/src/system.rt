@@ -1,6 +1,7 @@
 //! Standard input and output, or whatever else the library reads and writes. They tell nothing of their bytes.
 ghost use Rattle.std.specs.Prelude.{◌≡◌, ◌≤◌, ℕ, None, IfOk, length, drop, false};
 ghost use Rattle.tinymist_session.specs.ByteSink.{SinkCounts};
+ghost use Rattle.tinymist_session.specs.System as plain;
 
 use crate::memory::copy_front;
 use crate::sink::{ByteSink, FlushStep, WriteStep};
@@ -65,19 +66,27 @@ fn read_again<R: Read>(inner: &mut R, buf: &mut [u8]) -> io::Result<usize>
     Err(io::Error::from(ErrorKind::Interrupted))
 }
 
+/// What a read of the library says: only a read that failed is one.
+fn step_of_read(read: &io::Result<usize>) -> ReadStep
+    ensures { result ≡ plain.step_of_read read.now }
+{
+    match read {
+        Ok(n) => ReadStep::Got(*n),
+        Err(_) => ReadStep::Failed,
+    }
+}
+
 impl<R: Read + Drop> LineSource for StdinSource<R> {
     ghost left = { λ _. None };
 
     ghost faults = { λ faults. faults };
 
     fn read(&mut self, buf: &mut [u8]) -> ReadStep {
-        match read_front(&mut self.inner, &mut self.piece, buf) {
-            Ok(n) => ReadStep::Got(n),
-            Err(_) => {
-                self.faults = self.faults.saturating_add(1);
-                ReadStep::Failed
-            }
+        let read = read_front(&mut self.inner, &mut self.piece, buf);
+        if read.is_err() {
+            self.faults = self.faults.saturating_add(1);
         }
+        step_of_read(&read)
     }
 }
 
@@ -125,6 +134,26 @@ fn write_again<W: Write>(inner: &mut W, piece: &[u8]) -> io::Result<usize>
     Err(io::Error::from(ErrorKind::Interrupted))
 }
 
+/// What a write of the library says: only a write that failed is one.
+fn step_of_write(written: &io::Result<usize>) -> WriteStep
+    ensures { result ≡ plain.step_of_write written.now }
+{
+    match written {
+        Ok(n) => WriteStep::Took(*n),
+        Err(_) => WriteStep::Failed,
+    }
+}
+
+/// What a flush of the library says: only a flush that failed is one.
+fn step_of_flush(flushed: &io::Result<()>) -> FlushStep
+    ensures { result ≡ plain.step_of_flush flushed.now }
+{
+    match flushed {
+        Ok(()) => FlushStep::Done,
+        Err(_) => FlushStep::Failed,
+    }
+}
+
 impl<W: Write + Drop> ByteSink for StdSink<W> {
     ghost taken = { λ _. None };
 
@@ -135,32 +164,22 @@ impl<W: Write + Drop> ByteSink for StdSink<W> {
     ghost flushed = { λ s. s.flushed };
 
     fn write(&mut self, piece: &[u8]) -> WriteStep {
-        match write_again(&mut self.inner, piece) {
-            Ok(n) => {
-                if n > 0 {
-                    self.flushed = false;
-                } else if !piece.is_empty() {
-                    self.dry = self.dry.saturating_add(1);
-                }
-                WriteStep::Took(n)
-            }
-            Err(_) => {
-                self.faults = self.faults.saturating_add(1);
-                WriteStep::Failed
-            }
+        let written = write_again(&mut self.inner, piece);
+        match &written {
+            Ok(0) if piece.is_empty() => {}
+            Ok(0) => self.dry = self.dry.saturating_add(1),
+            Ok(_) => self.flushed = false,
+            Err(_) => self.faults = self.faults.saturating_add(1),
         }
+        step_of_write(&written)
     }
 
     fn flush(&mut self) -> FlushStep {
-        match self.inner.flush() {
-            Ok(()) => {
-                self.flushed = true;
-                FlushStep::Done
-            }
-            Err(_) => {
-                self.faults = self.faults.saturating_add(1);
-                FlushStep::Failed
-            }
+        let flushed = self.inner.flush();
+        match &flushed {
+            Ok(()) => self.flushed = true,
+            Err(_) => self.faults = self.faults.saturating_add(1),
         }
+        step_of_flush(&flushed)
     }
 }

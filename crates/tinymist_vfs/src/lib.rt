@@ -36,6 +36,3 @@ pub use resolver::{MockRootResolver, PathResolution, RootResolver, WORKSPACE_NS}
 pub use revise::{HoldsVfs, ReviseFault, RevisingVfs};
 pub use vfs::Vfs;
 pub use workspace::{WorkspaceId, WorkspaceResolution, WorkspaceResolver};
-
-#[cfg(test)]
-mod tests;

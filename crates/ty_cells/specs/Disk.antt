@@ -2,7 +2,7 @@
 use Rattle.std.specs.Prelude.{◌≡◌, ◌↔◌, ⊤, IsTrue, ℕ, Bool, if◌then◌else◌, List, [], ◌∷◌, Option, Some, None, Result, Ok, Err}
 use Rattle.std.specs.Str.{bytes_eq}
 use Rattle.ty_model.specs.Values.{Answer}
-use Rattle.ty_model.specs.Disk.{Told, Rest, AllDenied, rest_says, answer_of, after_ask}
+use Rattle.ty_model.specs.Disk.{Told, Rest, AllDenied, IsFixed, rest_says, answer_of, after_ask}
 use Rattle.ty_path.specs.declared.memory.OutOfMemory.{OutOfMemory}
 
 -- a disk that tells answers as told; want of memory drops no answer, and what is untold stays untold
@@ -28,3 +28,8 @@ HoldsAsTold (Some told) path answer holds = IsTrue holds ↔ (answers_at told pa
 -- a disk that denies every path
 abbrev pub all_denied : Told
 all_denied = record { files = []; rest = AllDenied }
+
+-- a disk that tells, with one fixed answer for each path
+abbrev pub TellsFixed : Option Told → Type 0
+TellsFixed None = ⊥
+TellsFixed (Some told) = IsFixed told

@@ -2,3 +2,4 @@ pub mod Snapshot
 pub mod Same
 pub mod Disk
 pub mod MapAccess
+pub mod System

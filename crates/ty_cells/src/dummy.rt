@@ -1,6 +1,6 @@
 //! A disk that denies every path.
 ghost use Rattle.std.specs.Prelude.{◌≡◌, Some};
-ghost use Rattle.ty_cells.specs.Disk.{all_denied};
+ghost use Rattle.ty_cells.specs.Disk.{all_denied, TellsFixed};
 
 use crate::disk::PathAccessModel;
 use crate::snapshot::FileSnapshot;
@@ -11,6 +11,15 @@ use ty_syntax::FileError;
 /// A disk that denies every path.
 #[derive(Clone, Copy, Debug)]
 pub struct DummyAccessModel;
+
+impl DummyAccessModel {
+    /// The disk, which is fixed.
+    pub fn new() -> DummyAccessModel
+        ensures fixed { TellsFixed (⟦<DummyAccessModel as PathAccessModel>⟧.told result) }
+    {
+        DummyAccessModel
+    }
+}
 
 impl PathAccessModel for DummyAccessModel {
     ghost told = { λ _. Some all_denied };

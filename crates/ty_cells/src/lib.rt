@@ -14,6 +14,3 @@ pub use dummy::DummyAccessModel;
 pub use map_access::MapAccess;
 pub use snapshot::FileSnapshot;
 pub use system::{LazyFile, SystemAccessModel, SystemFileMeta};
-
-#[cfg(test)]
-mod tests;

@@ -3,7 +3,7 @@ ghost use Rattle.std.specs.Prelude.{◌≡◌, ◌↔◌, [], ◌∷◌, IsTrue,
 ghost use Rattle.std.specs.List.{IsDistinct};
 ghost use Rattle.std.specs.Str.{bytes_eq};
 ghost use Rattle.ty_model.specs.Disk.{answer_of};
-ghost use Rattle.ty_cells.specs.Disk.{answers_at};
+ghost use Rattle.ty_cells.specs.Disk.{answers_at, TellsFixed};
 ghost use Rattle.ty_cells.specs.MapAccess.{path_of, told_by};
 
 use crate::disk::PathAccessModel;
@@ -33,9 +33,11 @@ impl Model for MapAccess {
 
 impl MapAccess {
     /// A disk of these files, in which no path stands twice.
+    #[tactic(auto, using(crate::proofs::Files::map_is_fixed))]
     pub fn new(files: Vec<(String, FileSnapshot)>) -> MapAccess
         requires { IsDistinct bytes_eq (map path_of files.items) }
-        ensures { result ≡ told_by files.items }
+        ensures files { result ≡ told_by files.items }
+        ensures fixed { TellsFixed (Some result) }
     {
         MapAccess { files }
     }

@@ -1,5 +1,8 @@
 //! The files of the system, of which nothing is told.
-ghost use Rattle.std.specs.Prelude.{◌≡◌, None, IsTrue, string_bytes};
+ghost use Rattle.std.specs.Prelude.{◌≡◌, ◌≢◌, None, IfOk, IsOk, IsTrue, string_bytes};
+ghost use Rattle.std.specs.Result.{result_map_both};
+ghost use Rattle.ty_model.specs.Values.{Refused};
+ghost use Rattle.ty_cells.specs.System.{answer_of_read, refusal_of_kind};
 
 use crate::disk::PathAccessModel;
 use crate::snapshot::FileSnapshot;
@@ -96,19 +99,31 @@ fn read<R: Files + AllocGlobal>(
     alloc: Global,
     path: &str,
 ) -> Result<FileSnapshot, OutOfMemory> {
-    match fs::read(rt, path) {
+    answer_of(alloc, path, fs::read(rt, path))
+}
+
+/// What a read says of a path.
+fn answer_of(
+    alloc: Global,
+    path: &str,
+    read: io::Result<Vec<u8>>,
+) -> Result<FileSnapshot, OutOfMemory>
+    ensures { IfOk result (λ s. s ≡ answer_of_read path.now (result_map_both (λ bytes. bytes.items) (λ error. error) read)) }
+{
+    match read {
         Ok(bytes) => Ok(FileSnapshot::from_bytes(Bytes::new(alloc, bytes)?)),
         Err(error) => refusal(alloc, path, error.kind()),
     }
 }
 
-/// What a failed read says of a path.
-fn refusal(alloc: Global, path: &str, kind: ErrorKind) -> Result<FileSnapshot, OutOfMemory> {
+/// What a failed read says of a path: a missing file is not found, and a path below a file is another error.
+fn refusal(alloc: Global, path: &str, kind: ErrorKind) -> Result<FileSnapshot, OutOfMemory>
+    ensures answer { IfOk result (λ s. s ≡ Refused (refusal_of_kind path.now kind)) }
+    ensures memory { IsOk result → kind ≢ ErrorKind.OutOfMemory }
+{
     let error = match kind {
         ErrorKind::OutOfMemory => return Err(OutOfMemory),
-        ErrorKind::NotFound | ErrorKind::NotADirectory => {
-            FileError::NotFound(String::from_str(alloc, path)?)
-        }
+        ErrorKind::NotFound => FileError::NotFound(String::from_str(alloc, path)?),
         ErrorKind::PermissionDenied => FileError::AccessDenied,
         ErrorKind::IsADirectory => FileError::IsDirectory,
         _ => FileError::Other(None),

@@ -24,6 +24,7 @@ returns-clause-session g c = λ limits is.
       bounded = e.bounded;
       read = e.read;
       was_flushed = e.flushed;
+      was_flushed_without_memory = e.flushed_without_memory;
       read_cause = e.read_cause;
       write_cause = e.write_cause;
     } in (

@@ -11,45 +11,41 @@ use Rattle.tinymist_session.specs.Turns.{ends, replies}
 use Rattle.tinymist_session.specs.Said.{limits_said}
 use Rattle.tinymist_session.specs.declared.reader.LineReader.{LineReader}
 use Rattle.tinymist_session.proofs.Lines.{end_nothing, commands_nothing, is_good}
-use Rattle.tinymist_session.proofs.Passes.{known_left, some_command, ends_ok, ends_err, replies_ok, written_err, first_lf, first_last, long_ends, long_replies, long_read, nothing_more, at_end}
+use Rattle.tinymist_session.proofs.Passes.{known_left, whole_line, only_line, some_command, ends_ok, ends_err, replies_ok, written_err, long_ends, long_replies, long_read, nothing_more, at_end}
 use Rattle.tinymist_session.proofs.session.Session.pass.Goals as goal
 
 pub returns-in-Ok-clause-ends : goal.returns-in-Ok-clause-ends
 returns-in-Ok-clause-ends g c = λ rest is_left.
     let r = c.read_line.new.self in
     let left = g.S.LineSource.left c.read_line.new.source in
-    let before = ahead c.args.self.now.reader (g.S.LineSource.left c.args.source.now) in
     let line = line_of r in
     let b = c.in-Line.ensures.bytes in
-    let known = known_left before (ahead r left) (line ++ 10 ∷ []) rest b.0 is_left in
-    let first = first_lf line known.0 rest b.1 known.2 in
+    let whole = whole_line _ (ahead r left) line rest b.0 b.1 is_left in
     let cmd = some_command (command_of line) c.in-Ok.ensures.reads in (
-      known.0,
-      ap (λ (x : LineReader). ahead x left) c.in-Ok.ensures.reader ∙ known.1,
-      ends_ok (limits_said c.args.limits) c.args.n line rest (lines_of known.0) c.requires.room b.2 first cmd.0 cmd.1,
-      record { line = line; command = cmd.0; cut = known.2; whole = b.1; short = b.2; good = is_good (limits_said c.args.limits) line b.2 ∙ cmd.1 },
+      whole.next,
+      ap (λ (x : LineReader). ahead x left) c.in-Ok.ensures.reader ∙ whole.left_is,
+      ends_ok (limits_said c.args.limits) c.args.n line rest (lines_of whole.next) c.requires.room b.2 whole.first cmd.0 cmd.1,
+      record { line = line; command = cmd.0; cut = whole.cut; whole = b.1; short = b.2; good = is_good (limits_said c.args.limits) line b.2 ∙ cmd.1 },
     )
 
 pub returns-in-Ok-clause-says : goal.returns-in-Ok-clause-says
 returns-in-Ok-clause-says g c = λ rest told s is_left is shown.
     let r = c.read_line.new.self in
     let left = g.S.LineSource.left c.read_line.new.source in
-    let before = ahead c.args.self.now.reader (g.S.LineSource.left c.args.source.now) in
     let line = line_of r in
     let b = c.in-Line.ensures.bytes in
-    let known = known_left before (ahead r left) (line ++ 10 ∷ []) rest b.0 is_left in
-    let first = first_lf line known.0 rest b.1 known.2 in
+    let whole = whole_line _ (ahead r left) line rest b.0 b.1 is_left in
     let cmd = some_command (command_of line) c.in-Ok.ensures.reads in
     let says = c.in-Ok.ensures.says told s cmd.0 is shown cmd.1 in
     record {
-      next = known.0;
+      next = whole.next;
       state = (step s told cmd.0).state;
       piece = reply_line (step s told cmd.0).reply;
-      left_is = ap (λ (x : LineReader). ahead x left) c.in-Ok.ensures.reader ∙ known.1;
+      left_is = ap (λ (x : LineReader). ahead x left) c.in-Ok.ensures.reader ∙ whole.left_is;
       shown = says.0;
       taken = says.1 ∙ ap (λ k. append_known k (reply_line (step s told cmd.0).reply)) c.read_line.ensures.taken;
-      goes_on = replies_ok (limits_said c.args.limits) c.args.n line rest (lines_of known.0) c.requires.room b.2 first told s cmd.0 cmd.1;
-      first = record { line = line; command = cmd.0; cut = known.2; whole = b.1; short = b.2; good = is_good (limits_said c.args.limits) line b.2 ∙ cmd.1 };
+      goes_on = replies_ok (limits_said c.args.limits) c.args.n line rest (lines_of whole.next) c.requires.room b.2 whole.first told s cmd.0 cmd.1;
+      first = record { line = line; command = cmd.0; cut = whole.cut; whole = b.1; short = b.2; good = is_good (limits_said c.args.limits) line b.2 ∙ cmd.1 };
       stepped = refl;
       said = refl;
     }
@@ -58,23 +54,19 @@ pub returns-in-Err-clause-ends : goal.returns-in-Err-clause-ends
 returns-in-Err-clause-ends g c = λ rest is_left.
     let r = c.read_line.new.self in
     let left = g.S.LineSource.left c.read_line.new.source in
-    let before = ahead c.args.self.now.reader (g.S.LineSource.left c.args.source.now) in
     let line = line_of r in
     let b = c.in-Line.ensures.bytes in
-    let known = known_left before (ahead r left) (line ++ 10 ∷ []) rest b.0 is_left in
-    let first = first_lf line known.0 rest b.1 known.2 in
-    ends_err (limits_said c.args.limits) c.args.n line rest (lines_of known.0) c.requires.room b.2 first (c.from-number.result + 1) (ap (λ (m : ℕ). m + 1) c.from-number.ensures) c.in-Err.fault c.in-Err.ensures.reads
+    let whole = whole_line _ (ahead r left) line rest b.0 b.1 is_left in
+    ends_err (limits_said c.args.limits) c.args.n line rest (lines_of whole.next) c.requires.room b.2 whole.first (c.from-number.result + 1) (ap (λ (m : ℕ). m + 1) c.from-number.ensures) c.in-Err.fault c.in-Err.ensures.reads
 
 pub returns-in-Err-clause-says : goal.returns-in-Err-clause-says
 returns-in-Err-clause-says g c = λ rest told s is_left is shown.
     let r = c.read_line.new.self in
     let left = g.S.LineSource.left c.read_line.new.source in
-    let before = ahead c.args.self.now.reader (g.S.LineSource.left c.args.source.now) in
     let line = line_of r in
     let b = c.in-Line.ensures.bytes in
-    let known = known_left before (ahead r left) (line ++ 10 ∷ []) rest b.0 is_left in
-    let first = first_lf line known.0 rest b.1 known.2 in
-    subst (λ k. Written (replies (limits_said c.args.limits) told s c.args.n rest) k (g.W.ByteSink.taken c.turn.new.sink) (Err c.in-Err.fault)) c.read_line.ensures.taken (written_err (limits_said c.args.limits) c.args.n line rest (lines_of known.0) c.requires.room b.2 first told s (g.W.ByteSink.taken c.read_line.new.sink) (g.W.ByteSink.taken c.turn.new.sink)
+    let whole = whole_line _ (ahead r left) line rest b.0 b.1 is_left in
+    subst (λ k. Written (replies (limits_said c.args.limits) told s c.args.n rest) k (g.W.ByteSink.taken c.turn.new.sink) (Err c.in-Err.fault)) c.read_line.ensures.taken (written_err (limits_said c.args.limits) c.args.n line rest (lines_of whole.next) c.requires.room b.2 whole.first told s (g.W.ByteSink.taken c.read_line.new.sink) (g.W.ByteSink.taken c.turn.new.sink)
     (λ e. c.in-Err.ensures.quiet e)
     (λ command e. c.in-Err.ensures.says told s command is shown e)
     (c.from-number.result + 1) c.in-Err.fault c.in-Err.ensures.reads)
@@ -83,13 +75,9 @@ pub returns-in-Ok-turn-clause-ends : goal.returns-in-Ok-turn-clause-ends
 returns-in-Ok-turn-clause-ends g c = λ rest is_left.
     let r = c.read_line.new.self in
     let left = g.S.LineSource.left c.read_line.new.source in
-    let before = ahead c.args.self.now.reader (g.S.LineSource.left c.args.source.now) in
     let line = line_of r in
     let b = c.in-Last.ensures.bytes in
-    let known = known_left before (ahead r left) line rest b.0 is_left in
-    let none = at_end (ahead r left) known.0 known.1 b.4 in
-    let all : rest ≡ line = known.2 ∙ ap (λ (next : List ℕ). line ++ next) none ∙ append-nil line in
-    let first = first_last line rest b.1 b.3 all in
+    let first = only_line _ (ahead r left) line rest b.0 b.1 b.3 b.4 is_left in
     let cmd = some_command (command_of line) c.in-Ok-turn.ensures.reads in
     ends_ok (limits_said c.args.limits) c.args.n line rest [] c.requires.room b.2 first cmd.0 cmd.1 ∙ end_nothing (limits_said c.args.limits) (c.args.n + 1)
 
@@ -97,13 +85,9 @@ pub returns-in-Ok-turn-clause-says : goal.returns-in-Ok-turn-clause-says
 returns-in-Ok-turn-clause-says g c = λ rest told s is_left is shown.
     let r = c.read_line.new.self in
     let left = g.S.LineSource.left c.read_line.new.source in
-    let before = ahead c.args.self.now.reader (g.S.LineSource.left c.args.source.now) in
     let line = line_of r in
     let b = c.in-Last.ensures.bytes in
-    let known = known_left before (ahead r left) line rest b.0 is_left in
-    let none = at_end (ahead r left) known.0 known.1 b.4 in
-    let all : rest ≡ line = known.2 ∙ ap (λ (next : List ℕ). line ++ next) none ∙ append-nil line in
-    let first = first_last line rest b.1 b.3 all in
+    let first = only_line _ (ahead r left) line rest b.0 b.1 b.3 b.4 is_left in
     let cmd = some_command (command_of line) c.in-Ok-turn.ensures.reads in
     let says = c.in-Ok-turn.ensures.says told s cmd.0 is shown cmd.1 in
     says.1 ∙ ap (λ k. append_known k (reply_line (step s told cmd.0).reply)) c.read_line.ensures.taken
@@ -113,26 +97,18 @@ pub returns-in-Err-turn-clause-ends : goal.returns-in-Err-turn-clause-ends
 returns-in-Err-turn-clause-ends g c = λ rest is_left.
     let r = c.read_line.new.self in
     let left = g.S.LineSource.left c.read_line.new.source in
-    let before = ahead c.args.self.now.reader (g.S.LineSource.left c.args.source.now) in
     let line = line_of r in
     let b = c.in-Last.ensures.bytes in
-    let known = known_left before (ahead r left) line rest b.0 is_left in
-    let none = at_end (ahead r left) known.0 known.1 b.4 in
-    let all : rest ≡ line = known.2 ∙ ap (λ (next : List ℕ). line ++ next) none ∙ append-nil line in
-    let first = first_last line rest b.1 b.3 all in
+    let first = only_line _ (ahead r left) line rest b.0 b.1 b.3 b.4 is_left in
     ends_err (limits_said c.args.limits) c.args.n line rest [] c.requires.room b.2 first (c.from-number.result + 1) (ap (λ (m : ℕ). m + 1) c.from-number.ensures) c.in-Err-turn.fault c.in-Err-turn.ensures.reads
 
 pub returns-in-Err-turn-clause-says : goal.returns-in-Err-turn-clause-says
 returns-in-Err-turn-clause-says g c = λ rest told s is_left is shown.
     let r = c.read_line.new.self in
     let left = g.S.LineSource.left c.read_line.new.source in
-    let before = ahead c.args.self.now.reader (g.S.LineSource.left c.args.source.now) in
     let line = line_of r in
     let b = c.in-Last.ensures.bytes in
-    let known = known_left before (ahead r left) line rest b.0 is_left in
-    let none = at_end (ahead r left) known.0 known.1 b.4 in
-    let all : rest ≡ line = known.2 ∙ ap (λ (next : List ℕ). line ++ next) none ∙ append-nil line in
-    let first = first_last line rest b.1 b.3 all in
+    let first = only_line _ (ahead r left) line rest b.0 b.1 b.3 b.4 is_left in
     subst (λ k. Written (replies (limits_said c.args.limits) told s c.args.n rest) k (g.W.ByteSink.taken c.turn-in-Last.new.sink) (Err c.in-Err-turn.fault)) c.read_line.ensures.taken (written_err (limits_said c.args.limits) c.args.n line rest [] c.requires.room b.2 first told s (g.W.ByteSink.taken c.read_line.new.sink) (g.W.ByteSink.taken c.turn-in-Last.new.sink)
     (λ e. c.in-Err-turn.ensures.quiet e)
     (λ command e. c.in-Err-turn.ensures.says told s command is shown e)
