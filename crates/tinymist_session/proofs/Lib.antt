@@ -7,7 +7,6 @@ pub mod Reading
 pub mod Changing
 pub mod Edits
 pub mod Others
-pub mod Kept
 pub mod Tabs
 pub mod Fixed
 pub mod Lines

@@ -6,13 +6,13 @@ use Rattle.tinymist_session.proofs.Told.{read_kept}
 use Rattle.tinymist_session.proofs.session.run_session.Goals as goal
 
 pub returns-clause-ends : goal.returns-clause-ends
-returns-clause-ends g c = λ input is. ends_flushed _ c.run-answer.result c.finish.result c.finish.ensures.same (c.run-answer.ensures.ends input is)
+returns-clause-ends g c = λ input is. ends_flushed _ c.run-answer.result c.finish-2.result c.finish-2.ensures.same (c.run-answer.ensures.ends input is)
 
 pub returns-clause-written : goal.returns-clause-written
 returns-clause-written g c = λ input told is disk fixed.
-    written_flushed (replies_to (limits_said c.args.limits) told input) (g.W.ByteSink.taken c.args.sink.now) (g.W.ByteSink.taken c.run-answer.new.sink) (g.W.ByteSink.taken c.finish.new.sink) c.run-answer.result c.finish.result c.finish.ensures.same c.finish.ensures.taken (c.run-answer.ensures.written input told is disk fixed)
+    written_flushed (replies_to (limits_said c.args.limits) told input) (g.W.ByteSink.taken c.args.sink.now) (g.W.ByteSink.taken c.run-answer.new.sink) (g.W.ByteSink.taken c.finish-2.new.sink) c.run-answer.result c.finish-2.result c.finish-2.ensures.same c.finish-2.ensures.taken (c.run-answer.ensures.written input told is disk fixed)
 
 pub returns-clause-answered : goal.returns-clause-answered
 returns-clause-answered g c = λ input told is disk fixed fault.
-    let a = c.run-answer.ensures.answered input told is disk fixed (read_kept c.run-answer.result c.finish.result c.finish.ensures.same fault) in
-    (a.0, c.finish.ensures.taken ∙ a.1)
+    let a = c.run-answer.ensures.answered input told is disk fixed (read_kept c.run-answer.result c.finish-2.result c.finish-2.ensures.same fault) in
+    (a.0, c.finish-2.ensures.taken ∙ a.1)
