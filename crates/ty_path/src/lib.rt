@@ -17,6 +17,3 @@ pub use memory::{ImmutBytes, ImmutPath, ImmutStr, OutOfMemory};
 pub use parts::{file_name, is_absolute, parent};
 pub use relative::{diff, strip_prefix};
 pub use share::Share;
-
-#[cfg(test)]
-mod tests;

@@ -25,8 +25,3 @@ pub use spec::{PackageSpec, PackageVersion, VersionlessPackageSpec};
 pub use tags::{TagFault, Tags};
 pub use text::text_of;
 pub use vpath::{PathFault, VirtualPath};
-
-#[cfg(test)]
-mod line_tests;
-#[cfg(test)]
-mod tests;
