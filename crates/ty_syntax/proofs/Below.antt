@@ -424,11 +424,6 @@ virtual-clean text =
     let again = (bytes_eq-Decides (clean (clean (47 ∷ text))) (clean (47 ∷ text))).1 (clean-clean (47 ∷ text)) in
     and_from (is_absolute (clean (47 ∷ text))) (bytes_eq (clean (clean (47 ∷ text))) (clean (47 ∷ text))) (ap (λ cs. is_absolute (or_dot (text_of cs))) root.1) again
 
--- a clean text that begins with a slash is what is stored
-pub stored-again : (text : List ℕ) → is_absolute text ≡ true → clean text ≡ text → text ≡ clean (47 ∷ text)
-stored-again text root same =
-    sym (sym (ap (λ t. or_dot (text_of (cleaned (cond t (RootDir ∷ counted (parts_at 47 text)) (counted_after_dot (parts_at 47 text)))))) root) ∙ same)
-
 pub leads-first : (c : Component) (cs : List Component) → leads_down (c ∷ cs) ≡ leads_down (c ∷ [])
 leads-first RootDir cs = refl
 leads-first CurDir cs = refl

@@ -1,16 +1,17 @@
 //! Worked ids, their order and their tags.
 
 use std::alloc::Global;
+use std::cmp::Ordering;
 use std::hash::{DefaultHasher, Hash, Hasher};
 use std::test::Fail;
 use ty_syntax::{
-    FileId, PackageSpec, PackageVersion, Root, TagFault, Tags, VirtualPath, detached_entry,
-    memory_main_entry,
+    FileId, PackageSpec, PackageVersion, Root, SpecKey, TagFault, Tags, VirtualPath,
+    detached_entry, memory_main_entry,
 };
 
-/// A package of this name and patch version.
-fn package(alloc: Global, name: &str, patch: u32) -> Result<Root, Fail> {
-    Ok(Root::Package(PackageSpec {
+/// A specification of this name and patch version.
+fn spec(alloc: Global, name: &str, patch: u32) -> Result<PackageSpec, Fail> {
+    Ok(PackageSpec {
         namespace: String::from_str(alloc, "preview")?,
         name: String::from_str(alloc, name)?,
         version: PackageVersion {
@@ -18,7 +19,47 @@ fn package(alloc: Global, name: &str, patch: u32) -> Result<Root, Fail> {
             minor: 1,
             patch,
         },
-    }))
+    })
+}
+
+/// A package of this name and patch version.
+fn package(alloc: Global, name: &str, patch: u32) -> Result<Root, Fail> {
+    Ok(Root::Package(spec(alloc, name, patch)?))
+}
+
+/// Names and patch versions of packages, from the least to the greatest.
+static PACKAGES: [(&str, u32); 4] = [("a", 2), ("a", 10), ("aa", 0), ("b", 0)];
+
+/// How the keys of two packages compare, and whether they are equal.
+fn keys_compared(
+    alloc: Global,
+    one: (&str, u32),
+    other: (&str, u32),
+) -> Result<(Ordering, bool), Fail> {
+    let one = SpecKey::new(spec(alloc, one.0, one.1)?);
+    let other = SpecKey::new(spec(alloc, other.0, other.1)?);
+    Ok((one.cmp(&other), one == other))
+}
+
+#[test]
+fn keys_of_packages_are_ordered(rt: HostRuntime) -> Result<(), Fail> {
+    for (place, package) in PACKAGES.iter().enumerate() {
+        for (other_place, other) in PACKAGES.iter().enumerate() {
+            let (order, same) = keys_compared(rt.alloc(), *package, *other)?;
+            assert!(rt; order == place.cmp(&other_place));
+            assert_eq!(rt; same, place == other_place);
+        }
+    }
+    Ok(())
+}
+
+#[test]
+fn ids_print_their_parts(rt: HostRuntime) -> Result<(), Fail> {
+    let text = format!(in rt.alloc(); "{:?}", detached_entry(rt.alloc())?)?;
+    let want =
+        "FileId { parts: Parts { root: Project, vpath: VirtualPath { text: \"/__detached.typ\" }, tag: 1 } }";
+    assert_eq!(rt; text.as_str(), want);
+    Ok(())
 }
 
 /// Roots from the least to the greatest.

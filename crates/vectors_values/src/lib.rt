@@ -2,6 +2,8 @@
 #![tactic(auto)]
 
 #[cfg(test)]
+mod clean_paths;
+#[cfg(test)]
 mod file_errors;
 #[cfg(test)]
 mod ids;
