@@ -4,3 +4,5 @@ pub mod UpLaws
 pub mod CloseLaws
 pub mod NormalLaws
 pub mod RelativeLaws
+pub mod CleanLaws
+pub mod CleanJoinLaws

@@ -1,3 +1,4 @@
+pub mod Clean
 pub mod Component
 pub mod Parts
 pub mod Shared

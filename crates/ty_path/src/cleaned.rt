@@ -4,13 +4,25 @@ ghost use Rattle.ty_model.specs.Paths as plain;
 ghost use Rattle.ty_path.specs.Parts.{plain_component, name_first, without_name, IsOpen};
 
 use crate::memory::OutOfMemory;
+use crate::pass::is_clean;
 use crate::written::{close, component_text, or_dot, push_part};
 use std::alloc::Global;
 use std::path::{Component, Path};
 
 /// The cleaned form of a path: no `.`, no empty part and no `..` that can be taken back. `..` at
-/// the root is dropped, and where nothing is left this is `.`.
+/// the root is dropped, and where nothing is left this is `.`. A clean path is copied as it is.
 pub fn clean(alloc: Global, path: &str) -> Result<String, OutOfMemory>
+    ensures value { IfOk result (λ text. string_bytes text ≡ plain.clean path.now) }
+    ensures stays { IfOk result (λ text. plain.clean (string_bytes text) ≡ string_bytes text) }
+{
+    if is_clean(path) {
+        return Ok(String::from_str(alloc, path)?);
+    }
+    clean_anew(alloc, path)
+}
+
+/// The cleaned form, put together from the components.
+fn clean_anew(alloc: Global, path: &str) -> Result<String, OutOfMemory>
     ensures value { IfOk result (λ text. string_bytes text ≡ plain.clean path.now) }
     ensures stays { IfOk result (λ text. plain.clean (string_bytes text) ≡ string_bytes text) }
 {

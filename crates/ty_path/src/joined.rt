@@ -2,8 +2,10 @@
 ghost use Rattle.std.specs.Prelude.{◌≡◌, IfOk, string_bytes};
 ghost use Rattle.ty_model.specs.Paths as plain;
 
+use crate::cleaned::clean;
 use crate::memory::OutOfMemory;
 use crate::parts::is_absolute;
+use crate::pass::{has_clean_parts, is_clean};
 use std::alloc::Global;
 
 /// `other` below `base`, with a slash between the two where `base` doesn't end with one.
@@ -25,6 +27,22 @@ pub fn join(alloc: Global, base: &str, other: &str) -> Result<String, OutOfMemor
     }
     text.push_str(other)?;
     Ok(text)
+}
+
+/// The cleaned form of `other` below `base`. Where `base` is clean and `other` is made of names alone, this
+/// takes one text and cleans nothing.
+pub fn clean_join(alloc: Global, base: &str, other: &str) -> Result<String, OutOfMemory>
+    ensures value { IfOk result
+        (λ text. string_bytes text ≡ plain.clean (plain.join base.now other.now)) }
+    ensures stays { IfOk result (λ text. plain.clean (string_bytes text) ≡ string_bytes text) }
+{
+    if !is_clean(base) || !has_clean_parts(other.as_bytes(), false) {
+        return clean(alloc, join(alloc, base, other)?.as_str());
+    }
+    if base == "." {
+        return Ok(String::from_str(alloc, other)?);
+    }
+    join(alloc, base, other)
 }
 
 /// Whether the path's last byte is a slash.

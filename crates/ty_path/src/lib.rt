@@ -1,22 +1,23 @@
 //! Paths as texts, values that can be shared, and want of memory.
 #![tactic(auto)]
 
+mod clean_path;
 mod cleaned;
 mod component;
 mod joined;
 mod memory;
 mod parts;
+mod pass;
 mod relative;
 mod share;
 mod written;
 
+pub use clean_path::CleanPath;
 pub use cleaned::{clean, normalize_path, unix_slash};
 pub use component::{Component, components};
-pub use joined::join;
+pub use joined::{clean_join, join};
 pub use memory::{ImmutBytes, ImmutPath, ImmutStr, OutOfMemory};
 pub use parts::{file_name, is_absolute, parent};
+pub use pass::is_clean;
 pub use relative::{diff, strip_prefix};
 pub use share::Share;
-
-#[cfg(test)]
-mod tests;

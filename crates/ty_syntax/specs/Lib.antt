@@ -1,4 +1,5 @@
 pub mod Spec
+pub mod SpecOrder
 pub mod Error
 pub mod Id
 pub mod IdParts

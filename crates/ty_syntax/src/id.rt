@@ -1,5 +1,7 @@
 //! Ids of files: a root, a virtual path and a tag.
 ghost use Rattle.std.specs.Prelude.{◌≡◌, ◌+◌, ◌-◌, ◌^◌, ◌↔◌, IfOk, OnErr, IsErrOf, fold, refl};
+ghost use Rattle.std.specs.String.{string_bytes};
+ghost use Rattle.ty_model.specs.Paths as paths;
 ghost use Rattle.ty_model.specs.Values as plain;
 ghost use Rattle.std.specs.Ordering.{as_partial_cmp};
 ghost use Rattle.ty_model.specs.Version.{same_id};
@@ -16,7 +18,7 @@ use std::cmp::Ordering;
 use std::hash::{Hash, Hasher};
 use std::marker::Model;
 use std::sync::Arc;
-use ty_path::{OutOfMemory, Share, clean};
+use ty_path::{OutOfMemory, Share, clean, is_clean};
 
 /// What a virtual path stands below.
 #[derive(Debug, PartialEq, Eq, PartialOrd, Ord, Hash, Drop)]
@@ -38,14 +40,24 @@ impl Root {
         ensures { IfOk result (λ root. root_of root ≡ stored_root (root_of self)) }
     {
         match self {
-            Root::Workspace(root) => Ok(Root::Workspace(clean(alloc, root.as_str())?)),
-            Root::UntitledRooted(root) => Ok(Root::UntitledRooted(clean(alloc, root.as_str())?)),
+            Root::Workspace(root) => Ok(Root::Workspace(cleaned(alloc, root)?)),
+            Root::UntitledRooted(root) => Ok(Root::UntitledRooted(cleaned(alloc, root)?)),
             other => Ok(other),
         }
     }
 }
 
-#[derive(Drop)]
+/// The path, cleaned where it isn't clean.
+fn cleaned(alloc: Global, path: String) -> Result<String, OutOfMemory>
+    ensures { IfOk result (λ text. string_bytes text ≡ paths.clean (string_bytes path)) }
+{
+    if is_clean(path.as_str()) {
+        return Ok(path);
+    }
+    clean(alloc, path.as_str())
+}
+
+#[derive(Debug, Drop)]
 struct Parts {
     root: Root,
     vpath: VirtualPath,
@@ -53,7 +65,7 @@ struct Parts {
 }
 
 /// An id: one shared value of three parts, by which it is compared and ordered. Contracts see the parts.
-#[derive(Drop)]
+#[derive(Debug, Drop)]
 pub struct FileId {
     parts: Arc<Parts>,
 }

@@ -10,6 +10,7 @@ mod lines;
 mod place;
 mod source;
 mod spec;
+mod spec_key;
 mod tags;
 mod text;
 mod vpath;
@@ -22,11 +23,7 @@ pub use lines::Lines;
 pub use place::Place;
 pub use source::{EditFault, Source};
 pub use spec::{PackageSpec, PackageVersion, VersionlessPackageSpec};
+pub use spec_key::SpecKey;
 pub use tags::{TagFault, Tags};
 pub use text::text_of;
 pub use vpath::{PathFault, VirtualPath};
-
-#[cfg(test)]
-mod line_tests;
-#[cfg(test)]
-mod tests;

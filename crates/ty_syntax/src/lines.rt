@@ -20,7 +20,7 @@ struct LineStart {
 
 /// The lines of a text. A look-up searches the table of their starts, and reads one line at most. Contracts see the
 /// text.
-#[derive(Drop)]
+#[derive(Debug, Drop)]
 pub struct Lines {
     text: String,
     starts: Vec<LineStart>,

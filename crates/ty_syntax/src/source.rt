@@ -35,7 +35,7 @@ impl From<OutOfMemory> for EditFault {
 }
 
 /// A file's id and text. Shares of a source have one text and one table of lines. Contracts see the id and the text.
-#[derive(Drop)]
+#[derive(Debug, Drop)]
 pub struct Source {
     id: FileId,
     lines: Arc<Lines>,

@@ -67,7 +67,12 @@ pub(crate) fn spliced(
 {
     let front = &text[..from];
     let rest = &text[to..];
-    Ok(format!(in alloc; "{front}{other}{rest}")?)
+    let room = (front.len() + rest.len()).saturating_add(other.len());
+    let mut whole = String::with_capacity(alloc, room)?;
+    whole.push_str(front)?;
+    whole.push_str(other)?;
+    whole.push_str(rest)?;
+    Ok(whole)
 }
 
 fn begins(byte: u8) -> bool

@@ -14,7 +14,7 @@ use std::marker::Model;
 use std::path::{Component, Path};
 use std::sync::Arc;
 use thiserror::Error;
-use ty_path::{ImmutStr, OutOfMemory, Share, clean, diff, join};
+use ty_path::{ImmutStr, OutOfMemory, Share, clean, clean_join, diff, is_absolute, is_clean};
 
 /// Why a text is no virtual path.
 #[derive(Clone, Copy, Debug, PartialEq, Eq, Error)]
@@ -41,7 +41,7 @@ impl From<OutOfMemory> for PathFault {
 }
 
 /// A path below some root, which begins with a slash and is clean. Contracts see its text.
-#[derive(Drop)]
+#[derive(Debug, Drop)]
 pub struct VirtualPath {
     text: ImmutStr,
 }
@@ -60,7 +60,8 @@ impl Model for VirtualPath {
 }
 
 impl VirtualPath {
-    /// The text below the root, cleaned. A slash at its front changes nothing.
+    /// The text below the root, cleaned. A slash at its front changes nothing, and a text that is clean behind its
+    /// slash is copied as it is.
     ///
     /// # Errors
     ///
@@ -75,7 +76,7 @@ impl VirtualPath {
         if escapes(text) {
             return Err(PathFault::Escapes);
         }
-        let text = clean(alloc, after(alloc, "", text)?.as_str())?;
+        let text = stored(alloc, text)?;
         Ok(VirtualPath::of_text(alloc, text)?)
     }
 
@@ -125,15 +126,14 @@ impl VirtualPath {
         VirtualPath::new(alloc, text.as_str())
     }
 
-    /// The path below a root, cleaned.
+    /// The path below a root, cleaned. Below a clean root this takes one text, and cleans nothing.
     pub fn realize(&self, alloc: Global, root: &str) -> Result<String, OutOfMemory>
         ensures path { IfOk result (λ path. string_bytes path ≡ plain.realize root.now self.now) }
         ensures below { IfOk result (λ path. IsBelow root.now (string_bytes path)) }
     {
         // Reading the field tells the proof its invariant: the text is a virtual path.
         let _text = &self.text;
-        let path = join(alloc, root, self.get_without_slash())?;
-        clean(alloc, path.as_str())
+        clean_join(alloc, root, self.get_without_slash())
     }
 
     /// The text, which begins with a slash.
@@ -170,6 +170,17 @@ fn has_nul(text: &str) -> bool
     ensures { result ≡ plain.has_nul text.now }
 {
     text.as_bytes().contains(&0)
+}
+
+/// The text behind a slash, cleaned.
+fn stored(alloc: Global, text: &str) -> Result<String, OutOfMemory>
+    ensures { IfOk result (λ stored. string_bytes stored ≡ plain.clean (47 ∷ text.now)) }
+{
+    if is_absolute(text) && is_clean(text) {
+        return Ok(String::from_str(alloc, text)?);
+    }
+    let rooted = after(alloc, "", text)?;
+    clean(alloc, rooted.as_str())
 }
 
 /// Whether some front of the text goes up more often than down.

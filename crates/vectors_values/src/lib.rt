@@ -1,2 +1,15 @@
 //! Tests of paths, ids, sources, maps and disks through their public calls: worked rows as tables, by topic.
 #![tactic(auto)]
+
+#[cfg(test)]
+mod clean_paths;
+#[cfg(test)]
+mod file_errors;
+#[cfg(test)]
+mod ids;
+#[cfg(test)]
+mod paths;
+#[cfg(test)]
+mod sources;
+#[cfg(test)]
+mod virtual_paths;

@@ -9,5 +9,5 @@ pub returns-clause-below : goal.returns-clause-below
 returns-clause-below c =
     let is_vpath = subst (λ t. is_virtual t ≡ true) c.self.view_is c.self.invariant in
     let root = c.args.root.now in
-    let whole = c.as_str.ensures.value ∙ c.in_ok-path.ensures ∙ ap (join root) c.get_without_slash.ensures in
-    IfOk-weaker c.clean.result _ _ (λ path e. subst (IsBelow root) (sym (e ∙ ap clean whole)) (realize-below root c.args.self.now is_vpath)) c.clean.ensures.value
+    let whole = ap (λ t. clean (join root t)) c.get_without_slash.ensures in
+    IfOk-weaker c.clean_join.result _ _ (λ path e. subst (IsBelow root) (sym (e ∙ whole)) (realize-below root c.args.self.now is_vpath)) c.clean_join.ensures.value

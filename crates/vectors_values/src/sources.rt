@@ -1,9 +1,9 @@
 //! Worked texts, lines and sources: each call against a table, and against a plain scan.
 
-use super::*;
 use std::alloc::Global;
 use std::test::Fail;
 use ty_path::Share;
+use ty_syntax::{EditFault, FileError, FileFault, Lines, Place, Source, detached_entry, text_of};
 
 /// Bytes, and their text if they have one.
 static TEXTS_OF: [(&[u8], Option<&str>); 9] = [
@@ -71,12 +71,33 @@ fn worked_places(rt: HostRuntime) -> Result<(), Fail> {
         assert_eq!(rt; lines.byte_to_column(byte), *column, "of {byte}");
         assert_eq!(rt; lines.byte_to_utf16(byte), *utf16, "of {byte}");
     }
-    assert_eq!(rt; lines.len_bytes(), 13);
-    assert_eq!(rt; lines.len_lines(), 3);
+    Ok(())
+}
+
+/// The range of each line of the worked text.
+static WORKED_LINES: [Option<(usize, usize)>; 4] = [
+    Some((0, 3)),
+    Some((3, 7)),
+    Some((7, 13)),
+    None,
+];
+
+#[test]
+fn worked_lines(rt: HostRuntime) -> Result<(), Fail> {
+    let source = source_of(rt.alloc(), WORKED)?;
+    let lines = source.lines();
+    for (line, range) in WORKED_LINES.iter().enumerate() {
+        assert_eq!(rt; lines.line_to_range(line), *range, "of {line}");
+    }
     assert_eq!(rt; lines.line_to_byte(1), Some(3));
-    assert_eq!(rt; lines.line_to_range(0), Some((0, 3)));
-    assert_eq!(rt; lines.line_to_range(2), Some((7, 13)));
-    assert_eq!(rt; lines.line_to_range(3), None);
+    Ok(())
+}
+
+#[test]
+fn worked_lengths(rt: HostRuntime) -> Result<(), Fail> {
+    let source = source_of(rt.alloc(), WORKED)?;
+    assert_eq!(rt; source.lines().len_bytes(), 13);
+    assert_eq!(rt; source.lines().len_lines(), 3);
     Ok(())
 }
 
@@ -170,30 +191,29 @@ fn answers_as_scanned(lines: &Lines, text: &str, offset: usize) -> bool {
         && lines.line_to_byte(at.line) == Some(at.start)
 }
 
+/// Whether each offset of the text, and the one past its end, is answered as a scan does.
+fn offsets_answer_as_scanned(lines: &Lines, text: &str) -> bool {
+    (0..text.len().saturating_add(2)).all(|offset| answers_as_scanned(lines, text, offset))
+}
+
+/// Whether the number of lines, the last line and the one after it are those of a scan.
+fn ends_as_scanned(lines: &Lines, text: &str) -> bool {
+    let end = scan(text, text.len());
+    lines.len_bytes() == text.len()
+        && lines.len_lines() == end.line.saturating_add(1)
+        && lines.line_to_range(end.line) == Some((end.start, text.len()))
+        && lines.line_to_byte(lines.len_lines()).is_none()
+}
+
 #[test]
 fn tables_answer_as_scans(rt: HostRuntime) -> Result<(), Fail> {
     for text in &TEXTS {
         let source = source_of(rt.alloc(), text)?;
-        let lines = source.lines();
-        for offset in 0..text.len().saturating_add(2) {
-            assert!(rt;
-                answers_as_scanned(lines, text, offset),
-                "{text:?} at {offset}"
-            );
-        }
-        let end = scan(text, text.len());
-        assert_eq!(rt; lines.len_bytes(), text.len(), "of {text:?}");
-        assert_eq!(rt;
-            lines.len_lines(),
-            end.line.saturating_add(1),
-            "of {text:?}"
+        assert!(rt;
+            offsets_answer_as_scanned(source.lines(), text),
+            "offsets of {text:?}"
         );
-        assert_eq!(rt;
-            lines.line_to_range(end.line),
-            Some((end.start, text.len())),
-            "of {text:?}"
-        );
-        assert_eq!(rt; lines.line_to_byte(lines.len_lines()), None, "of {text:?}");
+        assert!(rt; ends_as_scanned(source.lines(), text), "end of {text:?}");
     }
     Ok(())
 }
@@ -213,17 +233,29 @@ static EDITS: [(&str, usize, usize, &str, Result<&str, EditFault>); 11] = [
     ("abc", 1, 4, "x", Err(EditFault::Range)),
 ];
 
+/// Whether an edit of a text answers as the row says, and leaves the text that it says.
+fn edits_as_told(
+    alloc: Global,
+    text: &str,
+    span: (usize, usize),
+    with: &str,
+    made: Result<&str, EditFault>,
+) -> Result<bool, Fail> {
+    let mut source = source_of(alloc, text)?;
+    let answer = source.edit(alloc, span.0, span.1, with);
+    let now = made.unwrap_or(text);
+    Ok(
+        answer.err() == made.err()
+            && source.text() == now
+            && source.lines().len_bytes() == now.len(),
+    )
+}
+
 #[test]
 fn edits(rt: HostRuntime) -> Result<(), Fail> {
     for (text, from, to, with, made) in &EDITS {
-        let mut source = source_of(rt.alloc(), text)?;
-        let answer = source.edit(rt.alloc(), *from, *to, with);
-        assert_eq!(rt; answer.err(), made.err(), "of {text:?} at {from}..{to}");
-        let now = made.unwrap_or(text);
-        assert_eq!(rt; source.text(), now, "of {text:?} at {from}..{to}");
-        assert_eq!(rt;
-            source.lines().len_bytes(),
-            now.len(),
+        assert!(rt;
+            edits_as_told(rt.alloc(), text, (*from, *to), with, *made)?,
             "of {text:?} at {from}..{to}"
         );
     }
@@ -231,17 +263,31 @@ fn edits(rt: HostRuntime) -> Result<(), Fail> {
 }
 
 #[test]
-fn edits_keep_other_shares(rt: HostRuntime) -> Result<(), Fail> {
+fn edits_move_line_starts(rt: HostRuntime) -> Result<(), Fail> {
     let mut source = source_of(rt.alloc(), "a\rb")?;
-    let kept = source.share(rt.alloc())?;
     assert!(rt; source.edit(rt.alloc(), 2, 3, "\n").is_ok());
     assert_eq!(rt; source.text(), "a\r\n");
     assert_eq!(rt; source.lines().line_to_byte(1), Some(3));
     assert!(rt; source.edit(rt.alloc(), 1, 2, "").is_ok());
     assert_eq!(rt; source.lines().line_to_byte(1), Some(2));
+    Ok(())
+}
+
+#[test]
+fn a_replaced_text_has_lines_of_its_own(rt: HostRuntime) -> Result<(), Fail> {
+    let mut source = source_of(rt.alloc(), "a\n")?;
     source.replace(rt.alloc(), "x\ny\n")?;
     assert_eq!(rt; source.text(), "x\ny\n");
     assert_eq!(rt; source.lines().len_lines(), 3);
+    Ok(())
+}
+
+#[test]
+fn edits_keep_other_shares(rt: HostRuntime) -> Result<(), Fail> {
+    let mut source = source_of(rt.alloc(), "a\rb")?;
+    let kept = source.share(rt.alloc())?;
+    assert!(rt; source.edit(rt.alloc(), 1, 2, "").is_ok());
+    source.replace(rt.alloc(), "x\ny\n")?;
     assert_eq!(rt; kept.text(), "a\rb");
     assert_eq!(rt; kept.lines().line_to_range(1), Some((2, 3)));
     assert!(rt; *source.id() == *kept.id());

@@ -1,9 +1,12 @@
 //! Worked paths: each call against a table.
 
-use super::*;
 use std::alloc::Global;
 use std::sync::Arc;
 use std::test::Fail;
+use ty_path::{
+    Component, ImmutBytes, OutOfMemory, Share, clean, components, diff, file_name, is_absolute,
+    join, normalize_path, parent, strip_prefix, unix_slash,
+};
 
 /// A path, and its cleaned, its normalized and its slashed form.
 static FORMS: [(&str, &str, &str, &str); 43] = [
@@ -148,8 +151,8 @@ static JOINS: [(&str, &str, &str); 40] = [
     ("/..", "a", "/../a"),
 ];
 
-/// A path, a front, and what is left of the path after it.
-static FRONTS: [(&str, &str, Option<&str>); 41] = [
+/// A path, a prefix, and what is left of the path after it.
+static PREFIXES: [(&str, &str, Option<&str>); 41] = [
     ("", "", Some("")),
     ("a", "", Some("a")),
     ("/a", "", Some("/a")),
@@ -344,12 +347,12 @@ fn joined_paths(rt: HostRuntime) -> Result<(), Fail> {
 }
 
 #[test]
-fn rests_after_a_front(rt: HostRuntime) -> Result<(), Fail> {
-    for (path, front, rest) in &FRONTS {
+fn rests_after_a_prefix(rt: HostRuntime) -> Result<(), Fail> {
+    for (path, prefix, rest) in &PREFIXES {
         assert_eq!(rt;
-            strip_prefix(rt.alloc(), path, front)?.as_deref(),
+            strip_prefix(rt.alloc(), path, prefix)?.as_deref(),
             *rest,
-            "of {path} after {front}"
+            "of {path} after {prefix}"
         );
     }
     Ok(())
@@ -378,7 +381,7 @@ fn shared_bytes_come_again(rt: HostRuntime) -> Result<(), Fail> {
 }
 
 #[test]
-fn want_of_memory_has_a_text(rt: HostRuntime) -> Result<(), Fail> {
+fn out_of_memory_has_a_text(rt: HostRuntime) -> Result<(), Fail> {
     let text = format!(in rt.alloc(); "{}", OutOfMemory)?;
     assert_eq!(rt; text.as_str(), "out of memory");
     Ok(())

@@ -7,7 +7,7 @@ use Rattle.ty_model.proofs.PathLaws.{components-path, cleaned-path, clean-clean}
 use Rattle.ty_path.specs.Parts.{plain_component}
 use Rattle.ty_path.proofs.PartLaws.{path_given, front_given}
 use Rattle.ty_path.proofs.UpLaws.{open_so_far, keep_more}
-use Rattle.ty_path.proofs.cleaned.clean.Goals as goal
+use Rattle.ty_path.proofs.cleaned.clean_anew.Goals as goal
 
 pub keep-requires : goal.keep-requires
 keep-requires c =

@@ -2,7 +2,7 @@
 use Rattle.std.proofs.Common.{◌≡◌, map, string_bytes}
 use Rattle.ty_model.specs.Paths.{slashes, cleaned}
 use Rattle.ty_path.specs.Parts.{plain_component}
-use Rattle.ty_path.proofs.cleaned.clean.Given as goal
+use Rattle.ty_path.proofs.cleaned.clean_anew.Given as goal
 
 abbrev pub invariant-loop-component : goal.invariant-loop-component
 invariant-loop-component l =
