@@ -1,4 +1,4 @@
-use Rattle.ty_persist.proofs.tests.no_share_copies_entries.Given as goal
+use Rattle.vectors_values.proofs.maps.no_share_copies_entries.Given as goal
 
 -- the counter's ledger is the blank's
 abbrev pub ghosts-shares_made : goal.ghosts-shares_made

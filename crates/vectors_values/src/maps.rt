@@ -1,8 +1,8 @@
-//! Worked tables of the maps, over keys and values that own memory too, and maps that threads share.
+//! Worked tables of the maps, over keys and values that own memory too, shares that only sharing survives, and maps
+//! that threads share.
 ghost use Rattle.std.specs.Prelude.{◌≡◌, ◌<◌, ℕ, IfOk};
 ghost use Rattle.std.specs.String.{string_bytes};
 
-use crate::{ListMap, Map, Steps};
 use std::alloc::Global;
 use std::marker::Brand;
 use std::sync::Arc;
@@ -11,6 +11,7 @@ use std::sync::ledger::{Blank, Ledger};
 use std::thread;
 use std::thread::Threads;
 use ty_path::{ImmutPath, OutOfMemory, Share};
+use ty_persist::{ListMap, Map, Steps};
 
 // ---- one table of commands for both forms
 
@@ -293,6 +294,71 @@ fn no_share_copies_entries(rt: HostRuntime) -> Result<(), OutOfMemory> {
     assert_eq!(rt; share, (0, 0));
     assert!(rt; insert.0 <= 80 && insert.1 <= 80);
     assert!(rt; remove.0 <= 80 && remove.1 <= 80);
+    Ok(())
+}
+
+// ---- only sharing survives
+
+// How many keys the shared map has, and how often it is shared.
+const KEYS: u64 = 100_000;
+
+const SHARES: u64 = 10_000;
+
+// Each number below the bound, its own value.
+fn numbered<L: Ledger>(
+    alloc: Global,
+    bound: u64,
+    steps: &mut Steps<L>,
+) -> Result<Map<u64, u64>, OutOfMemory> {
+    let mut map = Map::new(alloc);
+    for key in 0..bound {
+        map.insert(key, key, steps)?;
+    }
+    Ok(map)
+}
+
+// Shares of a map, all held at once.
+fn shares_of<L: Ledger>(
+    alloc: Global,
+    map: &Map<u64, u64>,
+    count: u64,
+    steps: &mut Steps<L>,
+) -> Result<Vec<Map<u64, u64>>, OutOfMemory> {
+    let mut kept = Vec::new(alloc);
+    for _ in 0..count {
+        kept.push(map.share(steps)?)?;
+    }
+    Ok(kept)
+}
+
+// Ten thousand shares of a map of a hundred thousand keys, after which the map changes.
+fn many_shares<L: Ledger>(alloc: Global, blank: Blank) -> Result<Vec<Map<u64, u64>>, OutOfMemory>
+    requires name { blank.name ≡ L.name }
+    requires parts { blank.parts ≡ L.parts }
+    requires some { 0 < L.parts }
+{
+    let mut steps: Steps<L> = Steps::new(blank);
+    let mut map = numbered(alloc, KEYS, &mut steps)?;
+    let kept = shares_of(alloc, &map, SHARES, &mut steps)?;
+    map.insert(KEYS, 0, &mut steps)?;
+    map.insert(7, 0, &mut steps)?;
+    map.remove(&9, &mut steps)?;
+    Ok(kept)
+}
+
+// Whether a map has each number below the bound, its own value, at the keys that changed later.
+fn is_as_shared(map: &Map<u64, u64>) -> bool {
+    map.len() as u64 == KEYS
+        && map.get(&KEYS).is_none()
+        && map.get(&7).copied() == Some(7)
+        && map.get(&9).copied() == Some(9)
+}
+
+#[test]
+fn many_shares_of_many_keys(rt: HostRuntime) -> Result<(), OutOfMemory> {
+    let kept = many_shares::<Brand>(rt.alloc(), Blank::new(1))?;
+    assert_eq!(rt; kept.len() as u64, SHARES);
+    assert!(rt; kept.iter().all(is_as_shared));
     Ok(())
 }
 

@@ -1,4 +1,4 @@
-use Rattle.ty_persist.proofs.tests.threads_share_a_map.Given as goal
+use Rattle.vectors_values.proofs.maps.threads_share_a_map.Given as goal
 
 -- the counter's ledger is the blank's
 abbrev pub ghosts-of_paths : goal.ghosts-of_paths

@@ -1,4 +1,4 @@
-use Rattle.ty_persist.proofs.tests.older_versions_stay.Given as goal
+use Rattle.vectors_values.proofs.maps.older_versions_stay.Given as goal
 
 -- the counter's ledger is the blank's
 abbrev pub ghosts-shares_of_each_hundred : goal.ghosts-shares_of_each_hundred

@@ -1,4 +1,4 @@
-use Rattle.ty_persist.proofs.tests.texts_find_paths.Given as goal
+use Rattle.vectors_values.proofs.maps.texts_find_paths.Given as goal
 
 -- the counter's ledger is the blank's
 abbrev pub ghosts-of_paths : goal.ghosts-of_paths

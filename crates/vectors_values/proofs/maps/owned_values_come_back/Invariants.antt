@@ -1,4 +1,4 @@
-use Rattle.ty_persist.proofs.tests.owned_values_come_back.Given as goal
+use Rattle.vectors_values.proofs.maps.owned_values_come_back.Given as goal
 
 -- the counter's ledger is the blank's
 abbrev pub ghosts-set_twice : goal.ghosts-set_twice

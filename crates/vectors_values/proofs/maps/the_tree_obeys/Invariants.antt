@@ -1,4 +1,4 @@
-use Rattle.ty_persist.proofs.tests.the_list_obeys.Given as goal
+use Rattle.vectors_values.proofs.maps.the_tree_obeys.Given as goal
 
 -- the counter's ledger is the blank's
 abbrev pub ghosts-obeyed : goal.ghosts-obeyed
