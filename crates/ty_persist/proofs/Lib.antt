@@ -3,4 +3,4 @@ pub mod Entries
 pub mod Low
 pub mod Probes
 pub mod Places
-pub mod Replaced
+pub mod Puts

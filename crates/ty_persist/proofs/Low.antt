@@ -67,3 +67,9 @@ low_flat n = rw (pow_two (n + 1)) (omega arith)
 pub same_height : {K V E : Type 0} (l r h : ℕ) (res : Result (Contents K V) E) → IfOk res (λ t. IsHeightAfterRebalance l r t.height) → l ≤ r + 1 → r ≤ l + 1 → h ≡ max l r + 1 → IfOk res (λ t. t.height ≡ h)
 same_height l r h (Ok t) settles near near' is = settles.2 (near, near') ∙ sym is
 same_height l r h (Err e) settles near near' is = tt
+
+-- more entries under the same height
+pub low_more : (h m n : ℕ) → m ≤ n → 2 ^ h ≤ (m + 1) ^ 2 → 2 ^ h ≤ (n + 1) ^ 2
+low_more h m n more low =
+    let low' : 2 ^ h ≤ (m + 1) * (m + 1) = rw (pow_two (m + 1)) at low in
+    rw (pow_two (n + 1)) (omega (arith, square_le (m + 1) (n + 1) (omega arith)))

@@ -7,8 +7,6 @@ mod list_iter;
 mod list_map;
 mod map;
 mod steps;
-#[cfg(test)]
-mod tests;
 mod text_key;
 mod tree;
 

@@ -20,6 +20,8 @@ use std::sync::Arc;
 use std::sync::ledger::Ledger;
 use ty_path::{ImmutPath, OutOfMemory, Share};
 
+mod plain;
+
 /// A map as a sorted list of its entries. Its clauses are those of `Map` but for the costs.
 pub struct ListMap<K: Ord + Share, V: Share> {
     alloc: Global,
@@ -140,7 +142,7 @@ impl<K: Ord + Share, V: Share> ListMap<K, V> {
         ListIter::new(&self.entries)
     }
 
-    /// Sets the value of a key, and answers a share of the one before. Want of memory leaves the map as it was.
+    /// Sets the value of a key, and answers a share of the one before. Out of memory leaves the map as it was.
     pub fn insert<L: Ledger>(
         &mut self,
         key: K,
@@ -150,6 +152,7 @@ impl<K: Ord + Share, V: Share> ListMap<K, V> {
         ensures before { IfOk result (λ before. option_map V.seen before ≡ option_map V.seen (lookup (is_at (K.cmp key)) self.old.entries)) }
         ensures ok { OnOk result (self.new.entries ≡ put_entry K.cmp self.old.entries key value) }
         ensures err { OnErr result (self.new ≡ self.old) }
+        ensures low { IsLow self.old }
         ensures cost { steps.new ≤ steps.old + 1 }
     {
         match place(&self.entries, &key) {
@@ -168,7 +171,23 @@ impl<K: Ord + Share, V: Share> ListMap<K, V> {
         }
     }
 
-    /// Takes a key out, and answers a share of its value. Want of memory leaves the map as it was.
+    /// Sets the value of a key, as `insert`, and answers nothing of the one before.
+    pub fn put<L: Ledger>(
+        &mut self,
+        key: K,
+        value: V,
+        steps: &mut Steps<L>,
+    ) -> Result<(), OutOfMemory>
+        ensures ok { OnOk result (self.new.entries ≡ put_entry K.cmp self.old.entries key value) }
+        ensures err { OnErr result (self.new ≡ self.old) }
+        ensures low { IsLow self.old }
+        ensures cost { steps.new ≤ steps.old + 1 }
+    {
+        let _before = self.insert(key, value, steps)?;
+        Ok(())
+    }
+
+    /// Takes a key out, and answers a share of its value. Out of memory leaves the map as it was.
     pub fn remove<L: Ledger>(
         &mut self,
         key: &K,
@@ -178,6 +197,7 @@ impl<K: Ord + Share, V: Share> ListMap<K, V> {
         ensures ok { OnOk result (self.new.entries ≡ remove_entry (is_at (K.cmp key.now)) self.old.entries) }
         ensures ascending { IsAscending K.cmp self.old.entries }
         ensures err { OnErr result (self.new ≡ self.old) }
+        ensures low { IsLow self.old }
         ensures cost { steps.new ≤ steps.old }
     {
         match place(&self.entries, key) {

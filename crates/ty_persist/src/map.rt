@@ -1,5 +1,5 @@
-//! An ordered map whose older versions stay: a share costs one step, a new value copies only what others share, and
-//! any other change copies the nodes of one path and those that it rotates.
+//! An ordered map whose older versions stay: a share costs one step, and a value is put in place where nobody shares
+//! what lies on the way to its key. What others share is copied, and so are the nodes of a path that the tree turns.
 ghost use Rattle.std.specs.Prelude.{◌≡◌, ◌+◌, ◌*◌, ◌≤◌, ◌↔◌, [], length, IsTrue, is_some, IfOk, OnOk, OnErr};
 ghost use Rattle.std.specs.Option.{option_copied, option_map};
 ghost use Rattle.std.specs.Map.{lookup, remove_entry};
@@ -8,14 +8,14 @@ ghost use Rattle.std.specs.Map.Iter.{ShowsInOrder, deref_pair};
 ghost use Rattle.ty_persist.specs.Contents.{put_entry, IsAscending, IsLow};
 ghost use Rattle.ty_persist.specs.Texts.{is_text};
 
-use crate::entry::Entry;
-use crate::tree::Tree;
+use crate::tree::{Outcome, Tree};
 use crate::{Iter, Steps};
 use std::alloc::Global;
 use std::marker::Model;
-use std::sync::Arc;
 use std::sync::ledger::Ledger;
 use ty_path::{ImmutPath, OutOfMemory, Share};
+
+mod plain;
 
 /// A map in the order of its keys, whose shares cost one step.
 pub struct Map<K: Ord + Share, V: Share> {
@@ -79,7 +79,9 @@ impl<K: Ord + Share, V: Share> Map<K, V> {
         self.tree.get(key)
     }
 
-    /// Sets the value of a key, and answers a share of the one before. Want of memory leaves the map as it was.
+    /// Sets the value of a key, and answers the one before, or a share of it. The key is looked up once, and what
+    /// nobody shares is written in place. Out of memory leaves the map as it was, and so does a new key where
+    /// `usize::MAX` keys are there.
     pub fn insert<L: Ledger>(
         &mut self,
         key: K,
@@ -89,26 +91,58 @@ impl<K: Ord + Share, V: Share> Map<K, V> {
         ensures before { IfOk result (λ before. option_map V.seen before ≡ option_map V.seen (lookup (is_at (K.cmp key)) self.old.entries)) }
         ensures ok { OnOk result (self.new.entries ≡ put_entry K.cmp self.old.entries key value) }
         ensures err { OnErr result (self.new ≡ self.old) }
+        ensures low { IsLow self.old }
         ensures cost { steps.new ≤ steps.old + 4 * (self.old.height + 1) }
     {
-        let before = share_option(self.alloc, self.tree.get(&key))?;
-        match before {
-            Some(before) => {
-                self.tree.replace(self.alloc, key, value, steps)?;
-                Ok(Some(before))
+        self.place(key, value, true, steps)
+    }
+
+    /// Sets the value of a key, as `insert`, and shares nothing of the one before.
+    pub fn put<L: Ledger>(
+        &mut self,
+        key: K,
+        value: V,
+        steps: &mut Steps<L>,
+    ) -> Result<(), OutOfMemory>
+        ensures ok { OnOk result (self.new.entries ≡ put_entry K.cmp self.old.entries key value) }
+        ensures err { OnErr result (self.new ≡ self.old) }
+        ensures low { IsLow self.old }
+        ensures cost { steps.new ≤ steps.old + 4 * (self.old.height + 1) }
+    {
+        let _before = self.place(key, value, false, steps)?;
+        Ok(())
+    }
+
+    // Sets the value of a key. The value before comes back where it is wanted.
+    fn place<L: Ledger>(
+        &mut self,
+        key: K,
+        value: V,
+        wanted: bool,
+        steps: &mut Steps<L>,
+    ) -> Result<Option<V>, OutOfMemory>
+        ensures before { IfOk result (λ before. IsTrue wanted → option_map V.seen before ≡ option_map V.seen (lookup (is_at (K.cmp key)) self.old.entries)) }
+        ensures ok { OnOk result (self.new.entries ≡ put_entry K.cmp self.old.entries key value) }
+        ensures err { OnErr result (self.new ≡ self.old) }
+        ensures low { IsLow self.old }
+        ensures cost { steps.new ≤ steps.old + 4 * (self.old.height + 1) }
+    {
+        let grown = one_more(self.len)?;
+        match self.tree.put(self.alloc, key, value, wanted, steps)? {
+            Outcome::Replaced(before) => Ok(before),
+            Outcome::Added => {
+                self.len = grown;
+                Ok(None)
             }
-            None => {
-                let len = one_more(self.len)?;
-                steps.tick();
-                let entry = Arc::new(self.alloc, Entry { key, value })?;
+            Outcome::Waits(entry) => {
                 self.tree = self.tree.with_entry(self.alloc, entry, steps)?;
-                self.len = len;
+                self.len = grown;
                 Ok(None)
             }
         }
     }
 
-    /// Takes a key out, and answers a share of its value. Want of memory leaves the map as it was.
+    /// Takes a key out, and answers a share of its value. Out of memory leaves the map as it was.
     pub fn remove<L: Ledger>(
         &mut self,
         key: &K,
@@ -118,6 +152,7 @@ impl<K: Ord + Share, V: Share> Map<K, V> {
         ensures ok { OnOk result (self.new.entries ≡ remove_entry (is_at (K.cmp key.now)) self.old.entries) }
         ensures ascending { IsAscending K.cmp self.old.entries }
         ensures err { OnErr result (self.new ≡ self.old) }
+        ensures low { IsLow self.old }
         ensures cost { steps.new ≤ steps.old + 4 * (self.old.height + 1) }
     {
         match share_option(self.alloc, self.tree.get(key))? {

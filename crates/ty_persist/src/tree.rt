@@ -19,7 +19,9 @@ use std::sync::Arc;
 use std::sync::ledger::Ledger;
 use ty_path::{OutOfMemory, Share};
 
-mod replace;
+mod put;
+
+pub(crate) use put::Outcome;
 
 /// Entries in the order of their keys, as a tree whose nodes are shared.
 #[cycle(tree)]

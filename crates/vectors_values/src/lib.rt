@@ -1,4 +1,4 @@
-//! Tests of paths, ids, sources, maps and disks through their public calls: worked rows as tables, by topic.
+//! Tests of paths, ids, sources and maps through their public calls: worked rows as tables, by topic.
 #![tactic(auto)]
 
 #[cfg(test)]
@@ -7,6 +7,8 @@ mod clean_paths;
 mod file_errors;
 #[cfg(test)]
 mod ids;
+#[cfg(test)]
+mod maps;
 #[cfg(test)]
 mod paths;
 #[cfg(test)]

@@ -2,7 +2,7 @@ use Rattle.std.proofs.Common.{sym, ap, subst}
 use Rattle.ty_persist.specs.Contents.{IsAscending}
 use Rattle.ty_persist.specs.Shape.{pair, IsAvl}
 use Rattle.ty_persist.proofs.Entries.{ascending_one, ascending_put, put_less, put_equal, put_greater}
-use Rattle.ty_persist.proofs.Replaced.{there_left, there_right}
+use Rattle.ty_persist.proofs.Puts.{there_left, there_right}
 use Rattle.ty_persist.proofs.Low.{same_height}
 use Rattle.ty_persist.proofs.tree.Tree.+with_entry.Goals as goal
 
