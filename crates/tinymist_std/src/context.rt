@@ -151,6 +151,26 @@ fn met_with<A: Into<Option<Args>>, G: FnOnce() -> A + Drop>(
     Error::new(loc, kind, f().into())
 }
 
+/// A value that is absent says nothing.
+impl<T: Drop> WithContextUntyped<T> for Option<T> {
+    ghost holds = { λ s x. s ≡ Some x };
+
+    ghost gives_kind = { λ s k. (s ≡ None) × (k ≡ plain untold) };
+
+    fn context_ut(self, alloc: Global, loc: &'static str) -> Result<T, Error> {
+        self.context(alloc, loc)
+    }
+
+    fn with_context_ut<A: Into<Option<Args>>, G: FnOnce() -> A + Drop>(
+        self,
+        alloc: Global,
+        loc: &'static str,
+        f: G,
+    ) -> Result<T, Error> {
+        self.with_context(alloc, loc, f)
+    }
+}
+
 /// An error with arguments; where memory ran out, without.
 fn met(loc: &'static str, kind: ErrKind, args: Args) -> Error
     ensures { IsMet loc.now (λ k. k ≡ kind_of kind)

@@ -2,7 +2,7 @@
 ghost use Rattle.std.specs.Prelude.{◌≡◌, ◌<◌, Some, length, slice_get, IfOk};
 ghost use Rattle.tinymist_std.specs.PartNumber.{part_number};
 
-use crate::parts::part_of;
+use crate::parts::{holds, part_of, put_into, take_from};
 use std::alloc::Global;
 use std::collections::HashMap;
 use std::hash::{BuildHasher, BuildHasherDefault, FoldHasher, Hash};
@@ -18,7 +18,7 @@ pub struct FxDashMap<K: Eq + Hash, V> {
 }
 
 impl<K: Eq + Hash + Drop, V: Drop> FxDashMap<K, V> {
-    ghost use Rattle.tinymist_std.specs.FxDashMap.{part_count};
+    ghost use Rattle.tinymist_std.specs.FxDashMap.{part_count, parts_of};
 
     /// An empty map of so many parts.
     pub fn new(alloc: Global, shards: u32) -> Result<FxDashMap<K, V>, OutOfMemory>
@@ -36,22 +36,25 @@ impl<K: Eq + Hash + Drop, V: Drop> FxDashMap<K, V> {
     /// Puts the value under the key, and answers the one that stood there.
     pub fn insert<R: Wait>(&self, rt: &R, k: K, v: V) -> Result<Option<V>, OutOfMemory> {
         let mut shard = self.shard(&k).write(rt);
-        Ok(shard.insert(k, v)?)
+        put_into(&mut *shard, k, v)
     }
 
     /// Takes the key's entry out, and answers its value.
     pub fn remove<R: Wait>(&self, rt: &R, k: &K) -> Option<V> {
         let mut shard = self.shard(k).write(rt);
-        shard.remove(k)
+        take_from(&mut *shard, k)
     }
 
     /// Whether the map holds the key.
     pub fn contains_key<R: Wait>(&self, rt: &R, k: &K) -> bool {
-        self.shard(k).read(rt).contains_key(k)
+        holds(&*self.shard(k).read(rt), k)
     }
 
     /// The part of the key.
-    pub(crate) fn shard(&self, k: &K) -> &RwLock<HashMap<K, V>> {
+    fn shard(&self, k: &K) -> &RwLock<HashMap<K, V>>
+        ensures { slice_get (parts_of self.now) (part_number (K.hash_input k.now) (part_count self.now))
+            ≡ Some result.now }
+    {
         part_of_key(self.shards.as_slice(), k)
     }
 }

@@ -2,7 +2,9 @@
 ghost use Rattle.std.specs.Prelude.{Some};
 ghost use Rattle.tinymist_std.specs.Diagnostic.{severity_text};
 
+use std::alloc::Global;
 use std::fmt;
+use ty_path::{OutOfMemory, Share};
 
 /// The number of a definition.
 #[derive(Clone, Copy, Debug, PartialEq, Eq, PartialOrd, Ord, Hash)]
@@ -65,4 +67,22 @@ pub struct DiagMessage {
     pub severity: DiagSeverity,
     /// The part of the file that it tells of, if it is known.
     pub range: Option<LspRange>,
+}
+
+impl Share for DiagMessage {
+    ghost use Rattle.tinymist_std.specs.Diagnostic.{Report, report_of};
+
+    ghost Seen = { Report };
+
+    ghost seen = { report_of };
+
+    fn share(&self, alloc: Global) -> Result<DiagMessage, OutOfMemory> {
+        Ok(DiagMessage {
+            package: String::from_str(alloc, self.package.as_str())?,
+            path: String::from_str(alloc, self.path.as_str())?,
+            message: String::from_str(alloc, self.message.as_str())?,
+            severity: self.severity,
+            range: self.range,
+        })
+    }
 }

@@ -1,12 +1,13 @@
 //! What becomes the kind of an error.
 ghost use Rattle.std.specs.Prelude.{◌≡◌, Some, string_bytes};
-ghost use Rattle.tinymist_std.specs.Error.{Kind, message, plain};
+ghost use Rattle.tinymist_std.specs.Error.{Kind, message, no_memory, plain};
 ghost use Rattle.tinymist_std.specs.ErrKind.{kind_of};
 ghost use Rattle.tinymist_std.specs.Context.{IsKindFrom, IsMessageOf};
 
 use crate::error::{ErrKind, Error};
-use std::alloc::Global;
+use std::alloc::{AllocError, Global};
 use std::fmt::Display;
+use ty_path::OutOfMemory;
 
 /// What becomes the kind of an error: a kind, a text, or another error by its printed text.
 pub trait ErrKindExt: Drop {
@@ -49,6 +50,23 @@ impl ErrKindExt for Error {
             return ErrKind::OutOfMemory;
         }
         message_kind(alloc, &self)
+    }
+}
+
+/// Memory that ran out stays that.
+impl ErrKindExt for OutOfMemory {
+    ghost gives_kind = { λ _ given. given ≡ plain no_memory };
+
+    fn to_error_kind(self, _alloc: Global) -> ErrKind {
+        ErrKind::OutOfMemory
+    }
+}
+
+impl ErrKindExt for AllocError {
+    ghost gives_kind = { λ _ given. given ≡ plain no_memory };
+
+    fn to_error_kind(self, _alloc: Global) -> ErrKind {
+        ErrKind::OutOfMemory
     }
 }
 

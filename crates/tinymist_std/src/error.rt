@@ -1,5 +1,5 @@
 //! Errors that say where they were met, of what kind they are, and with which arguments.
-ghost use Rattle.std.specs.Prelude.{◌≡◌, [], ◌++◌, unwrap_or};
+ghost use Rattle.std.specs.Prelude.{◌≡◌, [], ◌++◌, IfOk, unwrap_or};
 ghost use Rattle.std.specs.Option.{option_map};
 ghost use Rattle.std.specs.Fmt.{DisplaysOnOk, WritesOnOk};
 ghost use Rattle.tinymist_std.specs.Error.{arguments_of, arguments_text, bare_text, cause_text, message_text, place_text, printed_text};
@@ -7,8 +7,10 @@ ghost use Rattle.tinymist_std.specs.ErrKind.{kind_of};
 ghost use Rattle.tinymist_std.specs.Context.{lacks_memory};
 
 use crate::diagnostic::DiagMessage;
+use std::alloc::Global;
 use std::fmt;
 use std::marker::Model;
+use ty_path::{OutOfMemory, Share};
 
 /// A result whose error is [`Error`] where none is named.
 pub type Result<T, Err = Error> = std::result::Result<T, Err>;
@@ -105,6 +107,87 @@ impl Error {
             None => &[],
         }
     }
+}
+
+impl Share for Error {
+    ghost use Rattle.tinymist_std.specs.Error.{Failure};
+
+    ghost Seen = { Failure };
+
+    ghost seen = { λ e. e };
+
+    fn share(&self, alloc: Global) -> std::result::Result<Error, OutOfMemory> {
+        Ok(share_error(self, alloc)?)
+    }
+}
+
+impl Share for ErrKind {
+    ghost use Rattle.tinymist_std.specs.Error.{Kind};
+    ghost use Rattle.tinymist_std.specs.ErrKind.{kind_of};
+
+    ghost Seen = { Kind };
+
+    ghost seen = { kind_of };
+
+    fn share(&self, alloc: Global) -> std::result::Result<ErrKind, OutOfMemory> {
+        let ErrKind::Inner(inner) = self else {
+            return share_plain(self, alloc);
+        };
+        let inner = share_error(&**inner, alloc)?;
+        Ok(ErrKind::Inner(Box::new(alloc, inner)?))
+    }
+}
+
+/// A copy of an error, with copies of those within it.
+fn share_error(error: &Error, alloc: Global) -> std::result::Result<Error, OutOfMemory>
+    ensures { IfOk result (λ again. again ≡ error.now) }
+{
+    let args = share_arguments(&error.args, alloc)?;
+    let ErrKind::Inner(inner) = &error.kind else {
+        let kind = share_plain(&error.kind, alloc)?;
+        return Ok(Error::new(error.loc, kind, args));
+    };
+    let inner = Box::new(alloc, share_error(&**inner, alloc)?)?;
+    Ok(Error::new(error.loc, ErrKind::Inner(inner), args))
+}
+
+/// A copy of a kind that has no error within it.
+fn share_plain(kind: &ErrKind, alloc: Global) -> std::result::Result<ErrKind, OutOfMemory>
+    requires { (kind_of kind.now).within ≡ [] }
+    ensures { IfOk result (λ again. kind_of again ≡ kind_of kind.now) }
+{
+    match kind {
+        ErrKind::None => Ok(ErrKind::None),
+        ErrKind::Msg(text) => Ok(ErrKind::Msg(String::from_str(alloc, text.as_str())?)),
+        ErrKind::Diag(report) => Ok(ErrKind::Diag(Box::new(alloc, report.share(alloc)?)?)),
+        ErrKind::Inner(_) => unreachable!(),
+        ErrKind::OutOfMemory => Ok(ErrKind::OutOfMemory),
+    }
+}
+
+/// A copy of the arguments, where there are any.
+fn share_arguments(
+    args: &Option<Args>,
+    alloc: Global,
+) -> std::result::Result<Option<Args>, OutOfMemory>
+    ensures { IfOk result (λ again. option_map (λ v. arguments_of v.items) again
+        ≡ option_map (λ v. arguments_of v.items) args.now) }
+{
+    match args {
+        Some(args) => Ok(Some(share_list(args, alloc)?)),
+        None => Ok(None),
+    }
+}
+
+/// A copy of the list of arguments.
+fn share_list(args: &Args, alloc: Global) -> std::result::Result<Args, OutOfMemory>
+    ensures { IfOk result (λ again. arguments_of again.items ≡ arguments_of args.now.items) }
+{
+    let mut again = Vec::new(alloc);
+    for (name, text) in args {
+        again.push((*name, String::from_str(alloc, text.as_str())?))?;
+    }
+    Ok(again)
 }
 
 impl fmt::Display for Error {

@@ -1,22 +1,20 @@
 //! Files that are open and locked.
-ghost use Rattle.std.specs.Prelude.{◌≡◌, IfErr, codes, string_bytes};
+ghost use Rattle.std.specs.Prelude.{◌≡◌, ℕ, List, IfErr, codes, string_bytes};
 ghost use Rattle.std.specs.Option.{option_copied};
 ghost use Rattle.std.specs.Path.{path_parent};
 ghost use Rattle.tinymist_std.specs.FileLock.{lock_file, lock_path};
-ghost use Rattle.tinymist_std.specs.Paths.{IsFileFault};
+ghost use Rattle.tinymist_std.specs.Paths.{IsEntryFault};
 
 use crate::error::Result;
-use crate::paths::named;
+use crate::paths::entry_fault;
 use std::alloc::Global;
-use std::fs::File;
+use std::fs::{File, FileType};
 use std::io::ErrorKind;
 use std::path::Path;
 use std::rt::Files;
 use std::{fs, io};
 
-/// An open file that holds a lock, which is given up when it and every clone of its handle is
-/// dropped.
-#[derive(Drop)]
+/// An open file that holds a lock, which is given up when it is dropped.
 pub struct FileLock {
     file: File,
     path: String,
@@ -56,49 +54,68 @@ impl FileLock {
     }
 
     /// Removes all that the file's folder holds beside it. Where the path has no parent or no name,
-    /// this is refused, and nothing is removed.
+    /// this is refused, and nothing is removed. The error names the entry that failed, or the folder
+    /// where it can't be read.
     pub fn remove_siblings<R: Files>(&self, rt: &R) -> Result<()>
-        ensures { IfErr result (IsFileFault (codes "remove_siblings") (lock_path self.now)) }
+        ensures { IfErr result (λ error. (entry : List ℕ)
+            × IsEntryFault (codes "remove_siblings") (lock_path self.now) entry error) }
     {
-        let alloc = *self.path.allocator();
         let path = self.path.as_str();
-        named(
-            alloc,
-            "remove_siblings",
-            path,
-            remove_beside(rt, alloc, path),
-        )
+        remove_beside(rt, *self.path.allocator(), "remove_siblings", path)
+    }
+}
+
+impl Drop for FileLock {
+    /// Gives the lock up, also where a clone of the handle is left.
+    fn drop(self) {
+        let _unlocked = self.file.unlock();
+        let FileLock { file: _, path: _ } = self;
     }
 }
 
 /// Removes all that the folder of the path holds beside its name, where it has both.
-fn remove_beside<R: Files>(rt: &R, alloc: Global, path: &str) -> io::Result<()> {
+fn remove_beside<R: Files>(rt: &R, alloc: Global, call: &'static str, path: &str) -> Result<()>
+    ensures { IfErr result (λ error. (entry : List ℕ) × IsEntryFault call.now path.now entry error) }
+{
     let place = Path::new(path);
     let (Some(folder), Some(name)) = (place.parent(), place.file_name()) else {
-        return Err(io::Error::from(ErrorKind::InvalidInput));
+        let refused = io::Error::from(ErrorKind::InvalidInput);
+        return Err(entry_fault(alloc, call, path, path, refused));
     };
-    let folder = if folder.as_str().is_empty() {
-        "."
-    } else {
-        folder.as_str()
+    let folder = readable(folder.as_str());
+    let entries = match fs::read_dir(&(rt, alloc), folder) {
+        Ok(entries) => entries,
+        Err(cause) => return Err(entry_fault(alloc, call, path, folder, cause)),
     };
-    for entry in fs::read_dir(&(rt, alloc), folder)? {
-        let entry = entry?;
+    for entry in entries {
+        let entry = match entry {
+            Ok(entry) => entry,
+            Err(cause) => return Err(entry_fault(alloc, call, path, folder, cause)),
+        };
         if entry.file_name() != name {
-            remove(
-                rt,
-                alloc,
-                entry.path().as_str(),
-                entry.file_type()?.is_dir(),
-            )?;
+            let place = entry.path();
+            let place = place.as_str();
+            if let Err(cause) = remove(rt, alloc, place, entry.file_type()) {
+                return Err(entry_fault(alloc, call, path, place, cause));
+            }
         }
     }
     Ok(())
 }
 
+/// The folder as the system reads it: an empty path is the folder in which the program runs.
+fn readable(folder: &str) -> &str {
+    if folder.is_empty() { "." } else { folder }
+}
+
 /// Removes a file, or a folder with all that it holds.
-fn remove<R: Files>(rt: &R, alloc: Global, path: &str, is_folder: bool) -> io::Result<()> {
-    if is_folder {
+fn remove<R: Files>(
+    rt: &R,
+    alloc: Global,
+    path: &str,
+    kind: io::Result<FileType>,
+) -> io::Result<()> {
+    if kind?.is_dir() {
         fs::remove_dir_all(&(rt, alloc), path)
     } else {
         fs::remove_file(rt, path)

@@ -1,19 +1,22 @@
 //! A folder whose files are opened with a lock.
-ghost use Rattle.std.specs.Prelude.{◌≡◌, IfOk, IfErr, IfSome, OnOk, OnErr, codes, string_bytes};
-ghost use Rattle.tinymist_std.specs.FileLock.{lock_path};
+ghost use Rattle.std.specs.Prelude.{◌≡◌, Ok, IfOk, IfErr, IfSome, MatchResult, OnOk, OnErr, codes, string_bytes};
+ghost use Rattle.std.specs.IoError.{error_kind};
+ghost use Rattle.tinymist_std.specs.Error.{no_memory, plain};
+ghost use Rattle.tinymist_std.specs.FileLock.{IsTaken, lock_path};
 ghost use Rattle.tinymist_std.specs.Paths.{IsFileFault};
 ghost use Rattle.ty_model.specs.Paths as plain;
 
-use crate::error::Result;
+use crate::error::{ErrKind, Error, Result};
 use crate::file_lock::FileLock;
-use crate::paths::{named, within_memory};
+use crate::paths::{named, told, within_memory};
 use std::alloc::Global;
+use std::fmt::Display;
 use std::fs::{File, OpenOptions, TryLockError};
 use std::io::ErrorKind;
 use std::marker::Model;
 use std::path::Path;
 use std::rt::Files;
-use std::{fs, io};
+use std::{fmt, fs, io};
 use ty_path::{OutOfMemory, join};
 
 /// A folder whose files are reached through locks. Its path alone is reached without.
@@ -129,7 +132,7 @@ impl Filesystem {
     }
 
     /// As [`Filesystem::open_ro_shared`], but a missing file is made, and the folder that it stands
-    /// in. Of a file that is there no permission to write is asked.
+    /// in. The handle reads alone, also that of a file that was made.
     pub fn open_ro_shared_create<R: Files<File = File>>(
         &self,
         rt: &R,
@@ -170,8 +173,10 @@ impl Filesystem {
         ensures err { IfErr result (IsFileFault call.now (plain.join self.now path.now)) }
     {
         let path = self.place(call, path)?;
-        let opened = open_and_lock(rt, path.as_str(), access);
+        let opened = open(rt, path.as_str(), access);
         let file = named(self.alloc(), call, path.as_str(), opened)?;
+        let answer = taken(access.lock(&file));
+        let _taken = lock_named(self.alloc(), call, path.as_str(), answer)?;
         Ok(FileLock::new(file, path))
     }
 
@@ -188,11 +193,13 @@ impl Filesystem {
         ensures err { IfErr result (IsFileFault call.now (plain.join self.now path.now)) }
     {
         let path = self.place(call, path)?;
-        let opened = open_and_try_lock(rt, path.as_str(), access);
-        match named(self.alloc(), call, path.as_str(), opened)? {
-            Some(file) => Ok(Some(FileLock::new(file, path))),
-            None => Ok(None),
+        let opened = open(rt, path.as_str(), access);
+        let file = named(self.alloc(), call, path.as_str(), opened)?;
+        let answer = taken(access.try_lock(&file));
+        if lock_named(self.alloc(), call, path.as_str(), answer)? {
+            return Ok(Some(FileLock::new(file, path)));
         }
+        Ok(None)
     }
 
     /// The path of a file of the folder.
@@ -228,14 +235,16 @@ impl Access {
         matches!(self, Access::Write)
     }
 
-    fn lock(self, file: &File) -> io::Result<()> {
-        match self {
+    /// Waits for the lock.
+    fn lock(self, file: &File) -> std::result::Result<(), TryLockError> {
+        let answer = match self {
             Access::Write => file.lock(),
             Access::Read | Access::ReadOrCreate => file.lock_shared(),
-        }
+        };
+        answer.map_err(TryLockError::Error)
     }
 
-    fn try_lock(self, file: &File) -> Result<(), TryLockError> {
+    fn try_lock(self, file: &File) -> std::result::Result<(), TryLockError> {
         match self {
             Access::Write => file.try_lock(),
             Access::Read | Access::ReadOrCreate => file.try_lock_shared(),
@@ -243,37 +252,84 @@ impl Access {
     }
 }
 
-fn open_and_lock<R: Files<File = File>>(rt: &R, path: &str, access: Access) -> io::Result<File> {
-    let file = open(rt, path, access)?;
-    access.lock(&file)?;
-    Ok(file)
-}
-
-/// `None` where the system says that the lock is held.
-fn open_and_try_lock<R: Files<File = File>>(
-    rt: &R,
-    path: &str,
-    access: Access,
-) -> io::Result<Option<File>> {
-    let file = open(rt, path, access)?;
-    match access.try_lock(&file) {
-        Ok(()) => Ok(Some(file)),
-        Err(TryLockError::WouldBlock) => Ok(None),
-        Err(TryLockError::Error(cause)) => Err(cause),
+/// Whether the lock was taken; it wasn't where another holds it. A file system that has no locks goes
+/// on without one.
+fn taken(answer: std::result::Result<(), TryLockError>) -> io::Result<bool>
+    ensures { IsTaken answer result }
+{
+    match answer {
+        Ok(()) => Ok(true),
+        Err(TryLockError::WouldBlock) => Ok(false),
+        Err(TryLockError::Error(cause)) => match cause.kind() {
+            ErrorKind::Unsupported => Ok(true),
+            _ => Err(cause),
+        },
     }
 }
 
-/// The file. Where it is missing and may be made, it is, after its folder.
+/// Why an open file has no lock.
+#[derive(Drop)]
+struct NotLocked<'a, D>(&'a D);
+
+impl<D: Display> Display for NotLocked<'_, D> {
+    ghost use Rattle.std.specs.Prelude.{Some, codes};
+    ghost use Rattle.std.specs.Fmt.{◌++?◌};
+
+    ghost output = { λ n. Some (codes "the file is open, but not locked: ") ++? D.output n.0.now };
+
+    fn fmt<W: fmt::Write>(&self, f: &mut fmt::Formatter<W>) -> fmt::Result {
+        f.write_str("the file is open, but not locked: ")?;
+        self.0.fmt(f)
+    }
+}
+
+/// The result of a lock, whose error names the call and the path, and says that the file was opened.
+fn lock_named<T>(alloc: Global, call: &'static str, path: &str, answer: io::Result<T>) -> Result<T>
+    ensures { MatchResult result (λ value. answer ≡ Ok value) (IsFileFault call.now path.now) }
+{
+    match answer {
+        Ok(value) => Ok(value),
+        Err(cause) => Err(lock_fault(alloc, call, path, cause)),
+    }
+}
+
+/// The error of a lock.
+fn lock_fault(alloc: Global, call: &'static str, path: &str, cause: io::Error) -> Error
+    ensures names { IsFileFault call.now path.now result }
+    ensures memory { error_kind cause ≡ ErrorKind.OutOfMemory → result.kind ≡ plain no_memory }
+{
+    match cause.kind() {
+        ErrorKind::OutOfMemory => Error::new(call, ErrKind::OutOfMemory, None),
+        _ => told(alloc, call, path, &NotLocked(&cause)),
+    }
+}
+
+/// The file. Where it is missing and may be made, it is, after its folder; to be read alone it is then
+/// opened again.
 fn open<R: Files<File = File>>(rt: &R, path: &str, access: Access) -> io::Result<File> {
-    let mut options = OpenOptions::new();
-    options.read(true).write(access.writes());
-    match options.open(rt, path) {
+    match open_present(rt, path, access) {
         Err(cause) if access.creates() && cause.kind() == ErrorKind::NotFound => {
-            create_folder_of(rt, path)?;
-            options.write(true).create(true).open(rt, path)
+            create(rt, path)?;
+            open_present(rt, path, access)
         }
         opened => opened,
     }
+}
+
+/// The file that is there.
+fn open_present<R: Files<File = File>>(rt: &R, path: &str, access: Access) -> io::Result<File> {
+    let mut options = OpenOptions::new();
+    options.read(true).write(access.writes());
+    options.open(rt, path)
+}
+
+/// Makes the file, after its folder; what is there by then stays.
+fn create<R: Files<File = File>>(rt: &R, path: &str) -> io::Result<()> {
+    create_folder_of(rt, path)?;
+    let mut options = OpenOptions::new();
+    options.write(true).create(true);
+    let _made = options.open(rt, path)?;
+    Ok(())
 }
 
 fn create_folder_of<R: Files>(rt: &R, path: &str) -> io::Result<()> {

@@ -1,11 +1,12 @@
 //! Fingerprints of 128 bits, and their texts in base64.
-ghost use Rattle.std.specs.Prelude.{◌≡◌, ℕ, ◌^◌, ◌%◌, ◌<◌, ◌++◌, [], None, Some, Ok, IfOk, IfErr, IfSome, OnOk, codes, take, string_bytes};
+ghost use Rattle.std.specs.Prelude.{◌≡◌, ℕ, ◌^◌, ◌%◌, ◌<◌, ◌++◌, [], Some, Ok, IfOk, IfErr, IfSome, OnOk, codes, take, string_bytes};
 ghost use Rattle.std.specs.Int.{w64, from_le_bytes};
 ghost use Rattle.base64.specs.GeneralPurpose.{IsBytes};
-ghost use Rattle.tinymist_std.specs.Error.{plain, untold};
+ghost use Rattle.tinymist_std.specs.Context.{IsRefusal, reason_alone};
 ghost use Rattle.tinymist_std.specs.Fingerprint.{Halves, IsTextOf, IsTextOfHalf, halves_of, number_of, svg_id, without_last_zeros};
 
-use crate::error::{ErrKind, Error};
+use crate::error::Error;
+use crate::error_args::ErrorArgs;
 use base64::engine::general_purpose::STANDARD_NO_PAD;
 use std::alloc::{AllocError, Global};
 use std::marker::Model;
@@ -74,21 +75,23 @@ impl Fingerprint {
 
     /// The fingerprint that the text is of, so that what `as_svg_id` writes without a prefix is read
     /// back. Zeros at the end of its high half may be there or not. The error comes exactly where
-    /// the text is of no fingerprint.
-    pub fn try_from_str(s: &str) -> Result<Fingerprint, Error>
+    /// the text is of no fingerprint, which it says; where memory runs out it says that.
+    pub fn try_from_str(alloc: Global, s: &str) -> Result<Fingerprint, Error>
         ensures reads { (f : Halves) → IsTextOf f s.now → result ≡ Ok f }
         ensures reads_back { (f : Halves) → f.low < 2 ^ 64 → f.high < 2 ^ 64
             → s.now ≡ svg_id f → result ≡ Ok f }
         ensures only { IfOk result (λ f. IsTextOf f s.now) }
-        ensures refused { IfErr result (λ e. e ≡ record {
-          place = codes "try_from_str";
-          arguments = None;
-          kind = plain untold;
-        }) }
+        ensures refused { IfErr result (IsRefusal (codes "try_from_str")
+            (Some (reason_alone (codes "the text is no fingerprint")))
+            ((f : Halves) → ¬ (IsTextOf f s.now))) }
     {
         match halves(s.as_bytes()) {
             Some(fingerprint) => Ok(fingerprint),
-            None => Err(Error::new("try_from_str", ErrKind::None, None)),
+            None => Err(
+                ErrorArgs::new(alloc)
+                    .with(alloc, "error", &"the text is no fingerprint")
+                    .error("try_from_str"),
+            ),
         }
     }
 }

@@ -1,12 +1,13 @@
 //! Maps from fingerprints behind a row of locks.
-ghost use Rattle.std.specs.Prelude.{◌≡◌, ◌%◌, ◌^◌, ◌<◌, ◌++◌, Some, length, min, slice_get, IfOk, OnOk, IsPermutation};
+ghost use Rattle.std.specs.Prelude.{◌≡◌, ◌%◌, ◌^◌, ◌<◌, ◌++◌, Some, length, min, slice_get, IfOk, OnOk, IsPermutation, vec_len};
+ghost use Rattle.std.specs.List.{flat_map};
 ghost use Rattle.std.specs.Borrow.{Array, Lends, sem};
 ghost use Rattle.std.specs.Int.{IsNextPowerOfTwo};
 ghost use Rattle.std.specs.List.Sorted.{IsSortedByKey};
 ghost use Rattle.tinymist_std.specs.Fingerprint.{halves_cmp};
 
 use crate::fingerprint::Fingerprint;
-use crate::parts::part_of;
+use crate::parts::{holds, part_of};
 use std::alloc::{AllocError, Global};
 use std::collections::HashMap;
 use std::hash::{BuildHasher, BuildHasherDefault, FoldHasher};
@@ -49,6 +50,13 @@ impl<V: Drop> FingerprintMap<V> {
         part_of_fingerprint(self.shards.as_slice(), fg)
     }
 
+    /// The number of that part.
+    pub fn shard_number(&self, fg: Fingerprint) -> usize
+        ensures { result ≡ fg.low % 2 ^ 32 % length (shards_of self.now) }
+    {
+        fg.lower32() as usize % self.shards.len()
+    }
+
     /// The parts, to be written. The map then holds what was written.
     pub fn as_mut_slice(&mut self) -> &mut [FingerprintMapShard<V>]
         ensures* writes_back { sem 𝓛 (Lends (the_row V.row)
@@ -61,7 +69,7 @@ impl<V: Drop> FingerprintMap<V> {
 
     /// Whether the map holds the fingerprint.
     pub fn contains_key<R: Wait>(&self, rt: &R, fg: &Fingerprint) -> bool {
-        self.shard(*fg).read(rt).contains_key(fg)
+        holds(&*self.shard(*fg).read(rt), fg)
     }
 
     /// The entries, which ascend by the fingerprint's low half, and then by its high half.
@@ -70,13 +78,39 @@ impl<V: Drop> FingerprintMap<V> {
             IsSortedByKey (λ item. item.0) halves_cmp items.items) }
     {
         let alloc = *self.shards.allocator();
-        let mut items = Vec::new(alloc);
-        for shard in self.shards {
-            append_part(&mut items, shard.into_inner())?;
-        }
-        sort_items(&mut items);
-        Ok(items)
+        Ok(items_of(alloc, unlocked(alloc, self.shards)?)?)
     }
+}
+
+/// What the parts hold, without their locks.
+fn unlocked<V: Drop>(
+    alloc: Global,
+    shards: Vec<FingerprintMapShard<V>>,
+) -> Result<Vec<HashMap<Fingerprint, V>>, AllocError>
+    ensures { IfOk result (λ parts. vec_len parts ≡ length shards.items) }
+{
+    let mut parts = Vec::new(alloc);
+    for shard in shards {
+        parts.push(shard.into_inner())?;
+    }
+    Ok(parts)
+}
+
+/// All entries of the parts, in the order of their fingerprints.
+fn items_of<V: Drop>(
+    alloc: Global,
+    parts: Vec<HashMap<Fingerprint, V>>,
+) -> Result<Vec<(Fingerprint, V)>, AllocError>
+    ensures all { IfOk result (λ items.
+        IsPermutation (flat_map (λ part. part.entries) parts.items) items.items) }
+    ensures sorted { IfOk result (λ items. IsSortedByKey (λ item. item.0) halves_cmp items.items) }
+{
+    let mut items = Vec::new(alloc);
+    for part in parts {
+        append_part(&mut items, part)?;
+    }
+    sort_items(&mut items);
+    Ok(items)
 }
 
 /// The part in which the fingerprint stands, of a row of parts of any type.

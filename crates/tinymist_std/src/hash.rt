@@ -1,5 +1,5 @@
 //! Hashes of the bytes that values feed, under a hash function that is handed in as a type.
-ghost use Rattle.std.specs.Prelude.{◌≡◌, ℕ, List, [], ◌++◌, IfOk, OnOk, OnErr};
+ghost use Rattle.std.specs.Prelude.{◌≡◌, ℕ, List, [], ◌++◌, IfOk, OnOk, OnErr, string_bytes};
 ghost use Rattle.std.specs.Int.{w64, to_le_bytes};
 ghost use Rattle.tinymist_std.specs.Fingerprint.{number_of};
 ghost use Rattle.tinymist_std.specs.Hash.{fingerprint_of, kind_and_item};
@@ -14,8 +14,9 @@ pub trait Feed {
     // The bytes that stand for the value.
     ghost bytes_of: { Self → List ℕ };
 
-    /// Appends the bytes; where memory runs out, `out` is as before.
-    fn feed(&self, out: &mut Vec<u8>) -> Result<(), OutOfMemory>
+    /// Appends the bytes; where memory runs out, `out` is as before. The allocator is for what is made
+    /// on the way.
+    fn feed(&self, alloc: Global, out: &mut Vec<u8>) -> Result<(), OutOfMemory>
         ensures ok { OnOk result (out.new.items ≡ out.old.items ++ bytes_of self.now) }
         ensures err { OnErr result (out.new.items ≡ out.old.items) };
 }
@@ -23,7 +24,7 @@ pub trait Feed {
 impl Feed for u64 {
     ghost bytes_of = { λ n. to_le_bytes w64 n };
 
-    fn feed(&self, out: &mut Vec<u8>) -> Result<(), OutOfMemory> {
+    fn feed(&self, _alloc: Global, out: &mut Vec<u8>) -> Result<(), OutOfMemory> {
         Ok(out.extend_from_slice(&self.to_le_bytes())?)
     }
 }
@@ -31,7 +32,7 @@ impl Feed for u64 {
 impl Feed for &[u8] {
     ghost bytes_of = { λ bytes. bytes.now };
 
-    fn feed(&self, out: &mut Vec<u8>) -> Result<(), OutOfMemory> {
+    fn feed(&self, _alloc: Global, out: &mut Vec<u8>) -> Result<(), OutOfMemory> {
         Ok(out.extend_from_slice(self)?)
     }
 }
@@ -39,8 +40,24 @@ impl Feed for &[u8] {
 impl Feed for &str {
     ghost bytes_of = { λ text. text.now };
 
-    fn feed(&self, out: &mut Vec<u8>) -> Result<(), OutOfMemory> {
+    fn feed(&self, _alloc: Global, out: &mut Vec<u8>) -> Result<(), OutOfMemory> {
         Ok(out.extend_from_slice(self.as_bytes())?)
+    }
+}
+
+impl Feed for String {
+    ghost bytes_of = { string_bytes };
+
+    fn feed(&self, _alloc: Global, out: &mut Vec<u8>) -> Result<(), OutOfMemory> {
+        Ok(out.extend_from_slice(self.as_bytes())?)
+    }
+}
+
+impl Feed for Vec<u8> {
+    ghost bytes_of = { λ bytes. bytes.items };
+
+    fn feed(&self, _alloc: Global, out: &mut Vec<u8>) -> Result<(), OutOfMemory> {
+        Ok(out.extend_from_slice(self.as_slice())?)
     }
 }
 
@@ -187,7 +204,7 @@ pub(crate) fn fed<T: Feed>(alloc: Global, value: &T) -> Result<Vec<u8>, OutOfMem
     ensures { IfOk result (λ bytes. bytes.items ≡ T.bytes_of value.now) }
 {
     let mut data = Vec::new(alloc);
-    value.feed(&mut data)?;
+    value.feed(alloc, &mut data)?;
     Ok(data)
 }
 
@@ -201,6 +218,6 @@ pub(crate) fn kind_and_item<T: Feed>(
 {
     let mut data = Vec::new(alloc);
     data.extend_from_slice(&kind.to_le_bytes())?;
-    item.feed(&mut data)?;
+    item.feed(alloc, &mut data)?;
     Ok(data)
 }

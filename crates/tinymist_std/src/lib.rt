@@ -25,8 +25,6 @@ pub mod paths;
 mod query;
 mod read_all;
 mod take_as;
-#[cfg(test)]
-mod tests;
 
 pub use context::{
     WithContext, WithContextUntyped, map_err, map_err_with_args, map_into_err,

@@ -17,14 +17,11 @@ macro_rules! bail {
 }
 
 /// An error of that place with named values as arguments and nothing else to say:
-/// `error_once!(alloc, "place", path: path, count: 2)`.
+/// `error_once!(alloc, "place", path: path, count: 2)`. With no pair its list of arguments is empty.
 #[macro_export]
 macro_rules! error_once {
-    ($alloc:expr, $loc:expr $(,)?) => {
-        $crate::Error::new($loc, $crate::ErrKind::None, None)
-    };
-    ($alloc:expr, $loc:expr, $($name:ident: $value:expr),+ $(,)?) => {
-        $crate::ErrorArgs::new($alloc)$(.with($alloc, stringify!($name), &$value))+.error($loc)
+    ($alloc:expr, $loc:expr $(, $name:ident: $value:expr)* $(,)?) => {
+        $crate::ErrorArgs::new($alloc)$(.with($alloc, stringify!($name), &$value))*.error($loc)
     };
 }
 
@@ -32,10 +29,10 @@ macro_rules! error_once {
 /// values as arguments: `error_once_map!(alloc, "place", path: path)`.
 #[macro_export]
 macro_rules! error_once_map {
-    ($alloc:expr, $loc:expr, $($name:ident: $value:expr),+ $(,)?) => {
+    ($alloc:expr, $loc:expr $(, $name:ident: $value:expr)* $(,)?) => {
         |error| {
             $crate::ErrorArgs::new($alloc)
-                $(.with($alloc, stringify!($name), &$value))+
+                $(.with($alloc, stringify!($name), &$value))*
                 .map_err($alloc, $loc, error)
         }
     };
@@ -45,10 +42,10 @@ macro_rules! error_once_map {
 /// [`map_string_err_with_args`](crate::map_string_err_with_args), with named values as arguments.
 #[macro_export]
 macro_rules! error_once_map_string {
-    ($alloc:expr, $loc:expr, $($name:ident: $value:expr),+ $(,)?) => {
+    ($alloc:expr, $loc:expr $(, $name:ident: $value:expr)* $(,)?) => {
         |error| {
             $crate::ErrorArgs::new($alloc)
-                $(.with($alloc, stringify!($name), &$value))+
+                $(.with($alloc, stringify!($name), &$value))*
                 .map_string_err($alloc, $loc, error)
         }
     };

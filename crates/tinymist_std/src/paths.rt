@@ -6,17 +6,21 @@ ghost use Rattle.std.specs.Option.{option_copied};
 ghost use Rattle.std.specs.Str.{IsUtf8};
 ghost use Rattle.tinymist_std.specs.Context.{IsRefusal, IsWantOfMemory, reason_alone};
 ghost use Rattle.tinymist_std.specs.PathAncestors.{path_next, path_stop};
-ghost use Rattle.tinymist_std.specs.Paths.{IsFileFault, any_has_colon, joined_paths, separator_arguments};
+ghost use Rattle.std.specs.IoError.{error_kind};
+ghost use Rattle.tinymist_std.specs.Error.{no_memory, plain};
+ghost use Rattle.tinymist_std.specs.Paths.{IsCopyFault, IsEntryFault, IsFileFault, TellsCause, any_has_colon, joined_paths, separator_arguments};
 
 use crate::error::{ErrKind, Error, Result};
 use crate::error_args::ErrorArgs;
 use crate::path_ancestors::PathAncestors;
 use std::alloc::Global;
+use std::fmt::Display;
 use std::io;
 use std::io::ErrorKind;
 
 mod folders;
 mod reading;
+mod temporary;
 mod writing;
 
 pub use folders::{create_dir_all, remove_dir, remove_dir_all, remove_file, temp_dir_in};
@@ -25,7 +29,7 @@ pub use writing::{append, copy, create, write, write_atomic, write_if_changed};
 
 /// The paths as one text for an environment variable, with `:` between. The error, which names the
 /// variable, comes where a path has a `:`, and else only where memory runs out.
-pub fn join_paths<R>(_rt: &R, alloc: Global, paths: &[String], env: &str) -> Result<String>
+pub fn join_paths(alloc: Global, paths: &[String], env: &str) -> Result<String>
     ensures joined { IfOk result (λ text. string_bytes text ≡ joined_paths paths.now) }
     ensures apart { IfOk result (λ _. any_has_colon paths.now ≡ false) }
     ensures refused { IfErr result (IsRefusal (codes "join_paths")
@@ -50,7 +54,7 @@ fn any_has_colon(paths: &[String]) -> bool
 }
 
 /// The bytes of a path.
-pub fn path2bytes<'p, R>(_rt: &R, path: &'p str) -> Result<&'p [u8]>
+pub fn path2bytes(path: &str) -> Result<&[u8]>
     ensures { IsOkAnd result (λ bytes. bytes.now ≡ path.now) }
 {
     Ok(path.as_bytes())
@@ -58,7 +62,7 @@ pub fn path2bytes<'p, R>(_rt: &R, path: &'p str) -> Result<&'p [u8]>
 
 /// The path of the bytes. The error comes where they aren't UTF-8, which it says, and else only
 /// where memory runs out.
-pub fn bytes2path<R>(_rt: &R, alloc: Global, bytes: &[u8]) -> Result<String>
+pub fn bytes2path(alloc: Global, bytes: &[u8]) -> Result<String>
     ensures path { IfOk result (λ path. string_bytes path ≡ bytes.now) }
     ensures refused { IfErr result
         (IsRefusal (codes "bytes2path") (Some (reason_alone (codes "the path is not UTF-8")))
@@ -112,13 +116,74 @@ pub(crate) fn named<T>(
 
 /// The error of a call that failed at a path, which tells the cause.
 fn fault(alloc: Global, call: &'static str, path: &str, cause: io::Error) -> Error
-    ensures { IsFileFault call.now path.now result }
+    ensures names { IsFileFault call.now path.now result }
+    ensures memory { error_kind cause ≡ ErrorKind.OutOfMemory → result.kind ≡ plain no_memory }
 {
-    if cause.kind() == ErrorKind::OutOfMemory {
-        return Error::new(call, ErrKind::OutOfMemory, None);
+    match cause.kind() {
+        ErrorKind::OutOfMemory => Error::new(call, ErrKind::OutOfMemory, None),
+        _ => told(alloc, call, path, &cause),
     }
+}
+
+/// The error of a call at a path that tells a cause by what it prints.
+pub(crate) fn told<D: Display>(alloc: Global, call: &'static str, path: &str, cause: &D) -> Error
+    ensures names { IsFileFault call.now path.now result }
+    ensures tells { TellsCause path.now (D.output cause.now) result }
+{
     ErrorArgs::new(alloc)
         .with(alloc, "path", &path)
-        .with(alloc, "error", &cause)
+        .with(alloc, "error", cause)
         .error(call)
+}
+
+/// The result of a copy, whose error names the call and both paths.
+pub(crate) fn copied<T>(
+    alloc: Global,
+    call: &'static str,
+    from: &str,
+    to: &str,
+    answer: io::Result<T>,
+) -> Result<T>
+    ensures { MatchResult result (λ value. answer ≡ Ok value) (IsCopyFault call.now from.now to.now) }
+{
+    match answer {
+        Ok(value) => Ok(value),
+        Err(cause) => Err(copy_fault(alloc, call, from, to, cause)),
+    }
+}
+
+/// The error of a copy, which names both paths and tells the cause.
+fn copy_fault(alloc: Global, call: &'static str, from: &str, to: &str, cause: io::Error) -> Error
+    ensures names { IsCopyFault call.now from.now to.now result }
+    ensures memory { error_kind cause ≡ ErrorKind.OutOfMemory → result.kind ≡ plain no_memory }
+{
+    match cause.kind() {
+        ErrorKind::OutOfMemory => Error::new(call, ErrKind::OutOfMemory, None),
+        _ => ErrorArgs::new(alloc)
+            .with(alloc, "from", &from)
+            .with(alloc, "to", &to)
+            .with(alloc, "error", &cause)
+            .error(call),
+    }
+}
+
+/// The error of a call at a path that failed at an entry beside it.
+pub(crate) fn entry_fault(
+    alloc: Global,
+    call: &'static str,
+    path: &str,
+    entry: &str,
+    cause: io::Error,
+) -> Error
+    ensures names { IsEntryFault call.now path.now entry.now result }
+    ensures memory { error_kind cause ≡ ErrorKind.OutOfMemory → result.kind ≡ plain no_memory }
+{
+    match cause.kind() {
+        ErrorKind::OutOfMemory => Error::new(call, ErrKind::OutOfMemory, None),
+        _ => ErrorArgs::new(alloc)
+            .with(alloc, "path", &path)
+            .with(alloc, "entry", &entry)
+            .with(alloc, "error", &cause)
+            .error(call),
+    }
 }

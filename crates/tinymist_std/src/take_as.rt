@@ -2,6 +2,7 @@
 ghost use Rattle.std.specs.Prelude.{◌≡◌, ◌⊎◌, IfOk};
 ghost use Rattle.std.specs.Arc.{arc_value};
 
+use std::alloc::Global;
 use std::sync::Arc;
 use ty_path::OutOfMemory;
 
@@ -10,8 +11,8 @@ pub trait TakeAs<T> {
     // `gives self x`: x is a value that may be taken.
     ghost gives: { Self → T → Type 0 };
 
-    /// The value.
-    fn take(self) -> Result<T, OutOfMemory>
+    /// The value; a clone that is made takes memory.
+    fn take(self, alloc: Global) -> Result<T, OutOfMemory>
         ensures { IfOk result (gives self) };
 }
 
@@ -19,7 +20,7 @@ pub trait TakeAs<T> {
 impl<T: Clone + Drop> TakeAs<T> for Arc<T> {
     ghost gives = { λ shared x. (x ≡ arc_value shared) ⊎ T.is_clone (arc_value shared) x };
 
-    fn take(self) -> Result<T, OutOfMemory> {
+    fn take(self, _alloc: Global) -> Result<T, OutOfMemory> {
         Ok(Arc::unwrap_or_clone(self)?)
     }
 }

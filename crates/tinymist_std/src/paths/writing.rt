@@ -1,13 +1,16 @@
 //! Files that are made and written.
-ghost use Rattle.std.specs.Prelude.{◌≡◌, IfErr, codes};
-ghost use Rattle.tinymist_std.specs.Paths.{IsFileFault};
+ghost use Rattle.std.specs.Prelude.{◌≡◌, ◌≢◌, ◌↔◌, Some, IfErr, IsTrue, bit_and, codes};
+ghost use Rattle.std.specs.Option.{option_map};
+ghost use Rattle.std.specs.Fs.{permissions_mode};
+ghost use Rattle.tinymist_std.specs.Paths.{IsCopyFault, IsFileFault, IsPresent};
 
 use crate::error::Result;
-use crate::paths::folders::first_free;
-use crate::paths::named;
+use crate::paths::temporary::{Place, first_free, random_part};
+use crate::paths::{copied, named};
 use std::alloc::Global;
-use std::fs::{File, OpenFile, OpenOptions};
+use std::fs::{File, OpenFile, OpenOptions, Permissions};
 use std::io::{ErrorKind, Write};
+use std::os::unix::fs::PermissionsExt;
 use std::path::Path;
 use std::rt::Files;
 use std::{fs, io};
@@ -27,8 +30,10 @@ pub fn write<R: Files>(rt: &R, alloc: Global, path: &str, contents: &[u8]) -> Re
 }
 
 /// As [`write`], by a new file that takes the path's name once it is written: who reads meanwhile
-/// finds the old content or the new one. The permissions of a file that stands there are kept. A
-/// link is replaced by a file, and other hard links keep the old content.
+/// finds the old content or the new one. Of the permissions of a file that stands there those to read,
+/// write and run are kept, and no others: the new file belongs to the caller, and must not run with
+/// the rights of the old one's owner. A link is replaced by a file, and other hard links keep the old
+/// content.
 pub fn write_atomic<R: Files>(rt: &R, alloc: Global, path: &str, contents: &[u8]) -> Result<()>
     ensures { IfErr result (IsFileFault (codes "write_atomic") path.now) }
 {
@@ -59,13 +64,12 @@ pub fn append<R: Files>(rt: &R, alloc: Global, path: &str, contents: &[u8]) -> R
     named(alloc, "append", path, extend(rt, path, contents))
 }
 
-/// Copies a file's content and permissions, and answers the count of bytes. The error names the
-/// file that was to be copied, even where the other path is at fault. A file that is copied onto
-/// itself loses its content.
+/// Copies a file's content and permissions, and answers the count of bytes. The error names both
+/// paths. A file that is copied onto itself loses its content.
 pub fn copy<R: Files>(rt: &R, alloc: Global, from: &str, to: &str) -> Result<u64>
-    ensures { IfErr result (IsFileFault (codes "copy") from.now) }
+    ensures { IfErr result (IsCopyFault (codes "copy") from.now to.now) }
 {
-    named(alloc, "copy", from, fs::copy(rt, from, to))
+    copied(alloc, "copy", from, to, fs::copy(rt, from, to))
 }
 
 /// Adds the bytes to the file's end.
@@ -77,10 +81,33 @@ fn extend<R: Files>(rt: &R, path: &str, contents: &[u8]) -> io::Result<()> {
 
 /// Makes the file hold the bytes, and writes it only where it is missing or holds others.
 fn update<R: Files>(rt: &R, alloc: Global, path: &str, contents: &[u8]) -> io::Result<()> {
-    match fs::read(&(rt, alloc), path) {
-        Ok(kept) if kept.as_slice() == contents => Ok(()),
-        Err(cause) if cause.kind() != ErrorKind::NotFound => Err(cause),
-        _ => fs::write(rt, path, contents),
+    let kept = present(fs::read(&(rt, alloc), path))?;
+    if must_write(&kept, contents) {
+        return fs::write(rt, path, contents);
+    }
+    Ok(())
+}
+
+/// What was read, or `None` of a file that is missing.
+fn present<T>(answer: io::Result<T>) -> io::Result<Option<T>>
+    ensures { IsPresent answer result }
+{
+    match answer {
+        Ok(found) => Ok(Some(found)),
+        Err(cause) => match cause.kind() {
+            ErrorKind::NotFound => Ok(None),
+            _ => Err(cause),
+        },
+    }
+}
+
+/// Whether a file must be written to hold the contents: it is missing, or holds others.
+fn must_write(kept: &Option<Vec<u8>>, contents: &[u8]) -> bool
+    ensures { IsTrue result ↔ (option_map (λ v. v.items) kept.now ≢ Some contents.now) }
+{
+    match kept {
+        Some(bytes) => bytes.as_slice() != contents,
+        None => true,
     }
 }
 
@@ -106,11 +133,18 @@ fn fill<R: Files>(
     contents: &[u8],
 ) -> io::Result<()> {
     if let Ok(there) = fs::metadata(rt, path) {
-        file.set_permissions(there.permissions())?;
+        file.set_permissions(kept_permissions(&there.permissions()))?;
     }
     file.write_all(contents)?;
     file.sync_all()?;
     fs::rename(rt, beside, path)
+}
+
+/// The permissions of a file that takes another's place: those to read, write and run.
+fn kept_permissions(there: &Permissions) -> Permissions
+    ensures { permissions_mode result ≡ bit_and (permissions_mode there.now) 0o777 }
+{
+    Permissions::from_mode(there.mode() & 0o777)
 }
 
 /// A new file in the folder of the path, and its path.
@@ -120,7 +154,11 @@ fn create_beside<R: Files>(rt: &R, alloc: Global, path: &str) -> io::Result<(Str
     };
     first_free(
         alloc,
-        folder.as_str(),
+        Place {
+            folder: folder.as_str(),
+            target: path,
+            unique: random_part(rt),
+        },
         |beside| File::create_new(rt, beside),
     )
 }
