@@ -20,7 +20,6 @@ mod shadows;
 mod stamp;
 mod store;
 mod told;
-mod uncounted;
 mod under;
 mod vfs;
 mod workspace;

@@ -8,7 +8,6 @@ ghost use Rattle.ty_persist.specs.Contents.{put_entry};
 
 use crate::access::AccessModel;
 use crate::store::at_id;
-use crate::uncounted::{put, take};
 use crate::under::{content_under, holds_under};
 use std::alloc::Global;
 use ty_cells::{FileSnapshot, PathAccessModel};
@@ -69,7 +68,7 @@ impl<K: Ord + Share, N: Drop> OverlayAccessModel<K, N> {
         ensures err { OnErr result (self.new.files ≡ self.old.files) }
         ensures inner { self.new.inner ≡ self.old.inner }
     {
-        put(&mut self.files, key, snap)
+        self.files.set(key, snap)
     }
 
     /// Drops what a key has.
@@ -78,7 +77,8 @@ impl<K: Ord + Share, N: Drop> OverlayAccessModel<K, N> {
         ensures err { OnErr result (self.new.files ≡ self.old.files) }
         ensures inner { self.new.inner ≡ self.old.inner }
     {
-        take(&mut self.files, key)
+        let _before = self.files.take(key)?;
+        Ok(())
     }
 }
 

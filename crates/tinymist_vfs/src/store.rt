@@ -31,7 +31,7 @@ pub(crate) fn put_path<X: Share, L: Ledger>(
 ) -> Result<(), OutOfMemory>
     ensures { OnOk result (path_map files.new.entries ≡ map.insert (path_map files.old.entries) (path_text path) value) }
 {
-    let _before = files.insert(path, value, steps)?;
+    files.put(path, value, steps)?;
     Ok(())
 }
 
@@ -60,7 +60,7 @@ pub(crate) fn put_id<X: Share, L: Ledger>(
 ) -> Result<(), OutOfMemory>
     ensures { OnOk result (id_map files.new.entries ≡ map.insert (id_map files.old.entries) id value) }
 {
-    let _before = files.insert(id, value, steps)?;
+    files.put(id, value, steps)?;
     Ok(())
 }
 

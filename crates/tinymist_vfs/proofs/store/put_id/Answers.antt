@@ -4,4 +4,4 @@ use Rattle.tinymist_vfs.proofs.Maps.{ids_put}
 use Rattle.tinymist_vfs.proofs.store.put_id.Goals as goal
 
 pub returns : goal.returns
-returns g c = ap id_map c.in_ok-_before.ensures.ok ∙ ids_put c.args.files.now.entries c.args.id c.args.value
+returns g c = ap id_map c.in_ok-put.ensures.ok ∙ ids_put c.args.files.now.entries c.args.id c.args.value

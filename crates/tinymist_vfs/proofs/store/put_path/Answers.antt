@@ -4,4 +4,4 @@ use Rattle.tinymist_vfs.proofs.Maps.{paths_put}
 use Rattle.tinymist_vfs.proofs.store.put_path.Goals as goal
 
 pub returns : goal.returns
-returns g c = ap path_map c.in_ok-_before.ensures.ok ∙ paths_put c.args.files.now.entries c.args.path c.args.value
+returns g c = ap path_map c.in_ok-put.ensures.ok ∙ paths_put c.args.files.now.entries c.args.path c.args.value

@@ -1,5 +1,0 @@
-use Rattle.tinymist_vfs.proofs.uncounted.take.Given as goal
-
--- the counter's ledger is the blank's
-abbrev pub ghosts-take_blank : goal.ghosts-take_blank
-ghosts-take_blank g a = record { name = a.blank.name; parts = a.blank.parts }
