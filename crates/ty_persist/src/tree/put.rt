@@ -66,6 +66,76 @@ fn set_entry<K: Ord + Share, V: Share, L: Ledger>(
     Ok(Some(mem::replace(&mut own.value, value)))
 }
 
+// Takes the left side off a child, which gets the entry and the right side of the node above it.
+fn hang_right<K: Ord + Share, V: Share>(
+    child: &mut Node<K, V>,
+    entry: &mut Arc<Entry<K, V>>,
+    right: Tree<K, V>,
+) -> Tree<K, V>
+    requires height_fits { right.height + 1 < 2 ^ 64 }
+    ensures outer { result ≡ child.old.left }
+    ensures inner { child.new.left ≡ child.old.right }
+    ensures right { child.new.right ≡ right }
+    ensures lowered { child.new.entry ≡ entry.old }
+    ensures raised { entry.new ≡ child.old.entry }
+    ensures height { child.new.height ≡ right.height + 1 }
+{
+    child.height = right.height() + 1;
+    let inner = mem::replace(&mut child.right, right);
+    mem::swap(&mut child.entry, entry);
+    mem::replace(&mut child.left, inner)
+}
+
+// Turns a node to the right, if its left side is higher, nobody shares that, and the key is left of it. The
+// entries and the height stay, and the left side is then lower.
+fn turn_right<K: Ord + Share, V: Share>(node: &mut Node<K, V>, key: &K) -> bool
+    requires balanced { IsBalanced K.cmp node.old }
+    requires height_fits { node.old.height < 2 ^ 63 }
+    ensures entries { (node_contents node.new).entries ≡ (node_contents node.old).entries }
+    ensures height { node.new.height ≡ node.old.height }
+    ensures balanced { IsBalanced K.cmp node.new }
+    ensures key { IsTrue result → K.cmp key.now (arc_value node.new.entry).key ≡ Less }
+    ensures lower { IsTrue result → node.new.left.height + 1 ≤ node.new.right.height }
+{
+    if node.left.height() <= node.right.height() {
+        return false;
+    }
+    let side = &mut node.left;
+    let Root::Fork(n) = &mut side.root else {
+        return false;
+    };
+    let Some(child) = Arc::get_mut(n) else {
+        return false;
+    };
+    if child.left.height() < child.right.height() {
+        return false;
+    }
+    let Ordering::Less = key.cmp(&child.entry.key) else {
+        return false;
+    };
+    let right = mem::replace(&mut node.right, Tree::new());
+    let outer = hang_right(child, &mut node.entry, right);
+    node.right = mem::replace(&mut node.left, outer);
+    true
+}
+
+// Whether the left side is lower, or is so after a turn, and the key still leads there.
+fn has_room_left<K: Ord + Share, V: Share>(node: &mut Node<K, V>, key: &K) -> bool
+    requires balanced { IsBalanced K.cmp node.old }
+    requires left { K.cmp key.now (arc_value node.old.entry).key ≡ Less }
+    requires height_fits { node.old.height < 2 ^ 63 }
+    ensures entries { (node_contents node.new).entries ≡ (node_contents node.old).entries }
+    ensures height { node.new.height ≡ node.old.height }
+    ensures balanced { IsBalanced K.cmp node.new }
+    ensures key { IsTrue result → K.cmp key.now (arc_value node.new.entry).key ≡ Less }
+    ensures lower { IsTrue result → node.new.left.height + 1 ≤ node.new.right.height }
+{
+    if node.left.height() < node.right.height() {
+        return true;
+    }
+    turn_right(node, key)
+}
+
 // Gives an entry a place on the left side, where the node doesn't grow by it. Else the entry waits.
 fn settle_left<K: Ord + Share, V: Share, L: Ledger>(
     alloc: Global,
@@ -84,11 +154,81 @@ fn settle_left<K: Ord + Share, V: Share, L: Ledger>(
     ensures cost { steps.new ≤ steps.old + 3 * node.old.height }
     ensures waits { IfOk result (λ p. WaitsWithin steps.old steps.new p) }
 {
-    if node.left.height() >= node.right.height() {
+    if !has_room_left(node, &entry.key) {
         return Ok(Outcome::Waits(entry));
     }
     node.left = node.left.with_entry(alloc, entry, steps)?;
     Ok(Outcome::Added)
+}
+
+// Takes the right side off a child, which gets the entry and the left side of the node above it.
+fn hang_left<K: Ord + Share, V: Share>(
+    child: &mut Node<K, V>,
+    entry: &mut Arc<Entry<K, V>>,
+    left: Tree<K, V>,
+) -> Tree<K, V>
+    requires height_fits { left.height + 1 < 2 ^ 64 }
+    ensures outer { result ≡ child.old.right }
+    ensures inner { child.new.right ≡ child.old.left }
+    ensures left { child.new.left ≡ left }
+    ensures lowered { child.new.entry ≡ entry.old }
+    ensures raised { entry.new ≡ child.old.entry }
+    ensures height { child.new.height ≡ left.height + 1 }
+{
+    child.height = left.height() + 1;
+    let inner = mem::replace(&mut child.left, left);
+    mem::swap(&mut child.entry, entry);
+    mem::replace(&mut child.right, inner)
+}
+
+// Turns a node to the left, if its right side is higher, nobody shares that, and the key is right of it. The
+// entries and the height stay, and the right side is then lower.
+fn turn_left<K: Ord + Share, V: Share>(node: &mut Node<K, V>, key: &K) -> bool
+    requires balanced { IsBalanced K.cmp node.old }
+    requires height_fits { node.old.height < 2 ^ 63 }
+    ensures entries { (node_contents node.new).entries ≡ (node_contents node.old).entries }
+    ensures height { node.new.height ≡ node.old.height }
+    ensures balanced { IsBalanced K.cmp node.new }
+    ensures key { IsTrue result → K.cmp key.now (arc_value node.new.entry).key ≡ Greater }
+    ensures lower { IsTrue result → node.new.right.height + 1 ≤ node.new.left.height }
+{
+    if node.right.height() <= node.left.height() {
+        return false;
+    }
+    let side = &mut node.right;
+    let Root::Fork(n) = &mut side.root else {
+        return false;
+    };
+    let Some(child) = Arc::get_mut(n) else {
+        return false;
+    };
+    if child.right.height() < child.left.height() {
+        return false;
+    }
+    let Ordering::Greater = key.cmp(&child.entry.key) else {
+        return false;
+    };
+    let left = mem::replace(&mut node.left, Tree::new());
+    let outer = hang_left(child, &mut node.entry, left);
+    node.left = mem::replace(&mut node.right, outer);
+    true
+}
+
+// Whether the right side is lower, or is so after a turn, and the key still leads there.
+fn has_room_right<K: Ord + Share, V: Share>(node: &mut Node<K, V>, key: &K) -> bool
+    requires balanced { IsBalanced K.cmp node.old }
+    requires right { K.cmp key.now (arc_value node.old.entry).key ≡ Greater }
+    requires height_fits { node.old.height < 2 ^ 63 }
+    ensures entries { (node_contents node.new).entries ≡ (node_contents node.old).entries }
+    ensures height { node.new.height ≡ node.old.height }
+    ensures balanced { IsBalanced K.cmp node.new }
+    ensures key { IsTrue result → K.cmp key.now (arc_value node.new.entry).key ≡ Greater }
+    ensures lower { IsTrue result → node.new.right.height + 1 ≤ node.new.left.height }
+{
+    if node.right.height() < node.left.height() {
+        return true;
+    }
+    turn_left(node, key)
 }
 
 // Gives an entry a place on the right side, where the node doesn't grow by it. Else the entry waits.
@@ -109,7 +249,7 @@ fn settle_right<K: Ord + Share, V: Share, L: Ledger>(
     ensures cost { steps.new ≤ steps.old + 3 * node.old.height }
     ensures waits { IfOk result (λ p. WaitsWithin steps.old steps.new p) }
 {
-    if node.right.height() >= node.left.height() {
+    if !has_room_right(node, &entry.key) {
         return Ok(Outcome::Waits(entry));
     }
     node.right = node.right.with_entry(alloc, entry, steps)?;

@@ -1,4 +1,6 @@
-use Rattle.std.proofs.Common.{◌+◌, ◌≤◌, arith}
+use Rattle.std.proofs.Common.{◌≡◌, None, IsTrue, sym, subst}
+use Rattle.std.specs.Map.{lookup}
+use Rattle.std.specs.BTreeMap.{is_at}
 use Rattle.ty_persist.specs.Shape.{pair}
 use Rattle.ty_persist.specs.declared.tree.put.Outcome.TheVariants.{Added}
 use Rattle.ty_persist.proofs.Puts.{absent_left, put_in_left, grown_left}
@@ -6,17 +8,25 @@ use Rattle.ty_persist.proofs.tree.put.settle_left.Goals as goal
 
 pub returns-clause-ok : goal.returns-clause-ok
 returns-clause-ok g c =
-    let n = c.args.node.now in
+    let m = c.has_room_left.new.node in
     let e = c.args.entry.value in
-    let good = c.requires.balanced in
-    let none = absent_left g.met.K.Ord.total e.key e.value n.left.entries (pair n.entry.value) n.right.entries good.0 c.requires.absent c.requires.left in
-    put_in_left g.met.K.Ord.total e.key e.value n.left.entries (pair n.entry.value) n.right.entries good.0 Added c.in_ok-node.field-0.entries c.requires.left (none, c.in_ok-node.ensures.entries)
+    let good = c.has_room_left.ensures.balanced in
+    let same = c.has_room_left.ensures.entries in
+    let yes : IsTrue c.has_room_left.result = cc in
+    let key = rw c.deref.ensures at (c.has_room_left.ensures.key yes) in
+    let absent = subst (λ es. lookup (is_at (g.K.Ord.cmp e.key)) es ≡ None) (sym same) c.requires.absent in
+    let none = absent_left g.met.K.Ord.total e.key e.value m.left.entries (pair m.entry.value) m.right.entries good.0 absent key in
+    let put = put_in_left g.met.K.Ord.total e.key e.value m.left.entries (pair m.entry.value) m.right.entries good.0 Added c.in_ok-node.field-0.entries key (none, c.in_ok-node.ensures.entries) in
+    (c.requires.absent, rw same at put.1)
 
 pub returns-clause-balanced : goal.returns-clause-balanced
 returns-clause-balanced g c =
-    let n = c.args.node.now in
+    let m = c.has_room_left.new.node in
     let e = c.args.entry.value in
-    let good = c.requires.balanced in
-    let none = absent_left g.met.K.Ord.total e.key e.value n.left.entries (pair n.entry.value) n.right.entries good.0 c.requires.absent c.requires.left in
-    let lower : n.left.height + 1 ≤ n.right.height = omega (arith, c.height.ensures.height, c.height-2.ensures.height, c.if-height.false) in
-    grown_left g.met.K.Ord.total e.key e.value n good c.in_ok-node.field-0 c.requires.left none c.in_ok-node.ensures.entries c.in_ok-node.ensures.height.0 c.in_ok-node.ensures.height.1 lower
+    let good = c.has_room_left.ensures.balanced in
+    let same = c.has_room_left.ensures.entries in
+    let yes : IsTrue c.has_room_left.result = cc in
+    let key = rw c.deref.ensures at (c.has_room_left.ensures.key yes) in
+    let absent = subst (λ es. lookup (is_at (g.K.Ord.cmp e.key)) es ≡ None) (sym same) c.requires.absent in
+    let none = absent_left g.met.K.Ord.total e.key e.value m.left.entries (pair m.entry.value) m.right.entries good.0 absent key in
+    grown_left g.met.K.Ord.total e.key e.value m good c.in_ok-node.field-0 key none c.in_ok-node.ensures.entries c.in_ok-node.ensures.height.0 c.in_ok-node.ensures.height.1 (c.has_room_left.ensures.lower yes)

@@ -1,4 +1,6 @@
-use Rattle.std.proofs.Common.{◌+◌, ◌≤◌, arith}
+use Rattle.std.proofs.Common.{◌≡◌, None, IsTrue, sym, subst}
+use Rattle.std.specs.Map.{lookup}
+use Rattle.std.specs.BTreeMap.{is_at}
 use Rattle.ty_persist.specs.Shape.{pair}
 use Rattle.ty_persist.specs.declared.tree.put.Outcome.TheVariants.{Added}
 use Rattle.ty_persist.proofs.Puts.{absent_right, put_in_right, grown_right}
@@ -6,17 +8,25 @@ use Rattle.ty_persist.proofs.tree.put.settle_right.Goals as goal
 
 pub returns-clause-ok : goal.returns-clause-ok
 returns-clause-ok g c =
-    let n = c.args.node.now in
+    let m = c.has_room_right.new.node in
     let e = c.args.entry.value in
-    let good = c.requires.balanced in
-    let none = absent_right g.met.K.Ord.total e.key e.value n.left.entries (pair n.entry.value) n.right.entries good.0 c.requires.absent c.requires.right in
-    put_in_right g.met.K.Ord.total e.key e.value n.left.entries (pair n.entry.value) n.right.entries good.0 Added c.in_ok-node.field-0.entries c.requires.right (none, c.in_ok-node.ensures.entries)
+    let good = c.has_room_right.ensures.balanced in
+    let same = c.has_room_right.ensures.entries in
+    let yes : IsTrue c.has_room_right.result = cc in
+    let key = rw c.deref.ensures at (c.has_room_right.ensures.key yes) in
+    let absent = subst (λ es. lookup (is_at (g.K.Ord.cmp e.key)) es ≡ None) (sym same) c.requires.absent in
+    let none = absent_right g.met.K.Ord.total e.key e.value m.left.entries (pair m.entry.value) m.right.entries good.0 absent key in
+    let put = put_in_right g.met.K.Ord.total e.key e.value m.left.entries (pair m.entry.value) m.right.entries good.0 Added c.in_ok-node.field-0.entries key (none, c.in_ok-node.ensures.entries) in
+    (c.requires.absent, rw same at put.1)
 
 pub returns-clause-balanced : goal.returns-clause-balanced
 returns-clause-balanced g c =
-    let n = c.args.node.now in
+    let m = c.has_room_right.new.node in
     let e = c.args.entry.value in
-    let good = c.requires.balanced in
-    let none = absent_right g.met.K.Ord.total e.key e.value n.left.entries (pair n.entry.value) n.right.entries good.0 c.requires.absent c.requires.right in
-    let lower : n.right.height + 1 ≤ n.left.height = omega (arith, c.height.ensures.height, c.height-2.ensures.height, c.if-height.false) in
-    grown_right g.met.K.Ord.total e.key e.value n good c.in_ok-node.field-0 c.requires.right none c.in_ok-node.ensures.entries c.in_ok-node.ensures.height.0 c.in_ok-node.ensures.height.1 lower
+    let good = c.has_room_right.ensures.balanced in
+    let same = c.has_room_right.ensures.entries in
+    let yes : IsTrue c.has_room_right.result = cc in
+    let key = rw c.deref.ensures at (c.has_room_right.ensures.key yes) in
+    let absent = subst (λ es. lookup (is_at (g.K.Ord.cmp e.key)) es ≡ None) (sym same) c.requires.absent in
+    let none = absent_right g.met.K.Ord.total e.key e.value m.left.entries (pair m.entry.value) m.right.entries good.0 absent key in
+    grown_right g.met.K.Ord.total e.key e.value m good c.in_ok-node.field-0 key none c.in_ok-node.ensures.entries c.in_ok-node.ensures.height.0 c.in_ok-node.ensures.height.1 (c.has_room_right.ensures.lower yes)
