@@ -8,7 +8,7 @@ ghost use Rattle.tinymist_session.specs.Grammar as grammar;
 
 use std::alloc::Global;
 use std::marker::Model;
-use ty_path::{OutOfMemory, clean, is_absolute};
+use ty_path::{OutOfMemory, is_absolute, is_clean};
 use ty_syntax::{PathFault, VirtualPath};
 
 /// The line as text, where it is UTF-8 without control bytes but tabs.
@@ -98,15 +98,12 @@ impl CleanPath {
 pub(crate) fn path(alloc: Global, word: &str) -> Result<Option<CleanPath>, OutOfMemory>
     ensures { IfOk result (λ path. path ≡ grammar.path_of word.now) }
 {
-    if !is_absolute(word) {
+    if !is_absolute(word) || !is_clean(word) {
         return Ok(None);
     }
-    let text = clean(alloc, word)?;
-    if word == text.as_str() {
-        Ok(Some(CleanPath { text }))
-    } else {
-        Ok(None)
-    }
+    Ok(Some(CleanPath {
+        text: String::from_str(alloc, word)?,
+    }))
 }
 
 /// What stands after an ASCII sign.
