@@ -1,5 +1,5 @@
 //! An ordered map whose older versions stay: a share costs one step, and a value is put in place where nobody shares
-//! what lies on the way to its key. What others share is copied, and so are the nodes of a path that the tree turns.
+//! what lies on the way to its key. What others share is copied, and so is a path that grows or turns twice.
 ghost use Rattle.std.specs.Prelude.{◌≡◌, ◌+◌, ◌*◌, ◌≤◌, ◌↔◌, [], length, IsTrue, is_some, IfOk, OnOk, OnErr};
 ghost use Rattle.std.specs.Option.{option_copied, option_map};
 ghost use Rattle.std.specs.Map.{lookup, remove_entry};
