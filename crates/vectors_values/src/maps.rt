@@ -514,3 +514,27 @@ fn threads_share_a_map(rt: HostRuntime) -> Result<(), OutOfMemory> {
     assert_eq!(rt; counted_elsewhere::<Brand>(&rt, tree, Blank::new(1))?, 4);
     Ok(())
 }
+
+#[test]
+fn calls_without_a_count(rt: HostRuntime) -> Result<(), OutOfMemory> {
+    let mut map: Map<u64, u64> = Map::new(rt.alloc());
+    map.set(1, 10)?;
+    map.set(1, 11)?;
+    assert_eq!(rt; map.replace(1, 12)?, Some(11));
+    let before = map.snapshot()?;
+    assert_eq!(rt; map.take(&1)?, Some(12));
+    assert_eq!(rt; (map.get(&1), before.get(&1)), (None, Some(&12)));
+    Ok(())
+}
+
+#[test]
+fn calls_of_the_list_without_a_count(rt: HostRuntime) -> Result<(), OutOfMemory> {
+    let mut map: ListMap<u64, u64> = ListMap::new(rt.alloc());
+    map.set(1, 10)?;
+    map.set(1, 11)?;
+    assert_eq!(rt; map.replace(1, 12)?, Some(11));
+    let before = map.snapshot()?;
+    assert_eq!(rt; map.take(&1)?, Some(12));
+    assert_eq!(rt; (map.get(&1), before.get(&1)), (None, Some(&12)));
+    Ok(())
+}
