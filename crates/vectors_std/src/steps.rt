@@ -1,0 +1,244 @@
+//! Tests on files as tables: a row names a path of a new folder, what is done there and what is found.
+use std::alloc::Global;
+use std::fs::{File, FileTimes, OpenOptions, Permissions};
+use std::io::Write;
+use std::os::unix::fs::PermissionsExt;
+use std::process::Abort;
+use std::rt::Files;
+use std::time::{Duration, SystemTime, UNIX_EPOCH};
+use std::{fs, io};
+use tinymist_std::paths::{
+    append, copy, create, create_dir_all, metadata, open, read, read_bytes, remove_dir,
+    remove_dir_all, remove_file, write, write_atomic, write_if_changed,
+};
+use tinymist_std::{ErrKind, Error, ReadAllOnce, Result, WithContext, WithContextUntyped};
+
+/// A call at a path.
+#[derive(Clone, Copy, Debug)]
+pub enum Call {
+    Append(&'static [u8]),
+    Create(&'static [u8]),
+    CreateDirAll,
+    Metadata,
+    Open,
+    Read,
+    ReadBytes,
+    RemoveDir,
+    RemoveDirAll,
+    RemoveFile,
+    Write(&'static [u8]),
+    WriteAtomic(&'static [u8]),
+    WriteIfChanged(&'static [u8]),
+}
+
+/// What a row of a test does at its path, or finds there.
+#[derive(Clone, Copy, Debug)]
+pub enum Step {
+    /// The call goes through.
+    Does(Call),
+    /// The call fails with an error that names it and the path.
+    Fails(Call),
+    /// The file is copied to this path, and so many bytes are counted.
+    Copies(&'static str, u64),
+    /// The file is given these permissions.
+    SetMode(u32),
+    /// The file is given a time long past.
+    SetOld,
+    /// A file with these bytes stands there.
+    Holds(&'static [u8]),
+    /// A file of that length stands there.
+    HasLength(u64),
+    /// What stands there has these permissions, those for set-user-id and the like among them.
+    HasMode(u32),
+    /// The file has the time of `SetOld`, or hasn't.
+    IsOld(bool),
+    /// A folder stands there.
+    IsFolder,
+    /// Nothing stands there.
+    IsMissing,
+}
+
+/// A path below the folder, and what happens there.
+pub type Row = (&'static str, Step);
+
+/// The path of a name below a folder.
+pub fn below(alloc: Global, folder: &str, name: &str) -> Result<String> {
+    match ty_path::join(alloc, folder, name) {
+        Ok(path) => Ok(path),
+        Err(_) => Err(Error::new("below", ErrKind::OutOfMemory, None)),
+    }
+}
+
+/// Makes a file with the bytes.
+fn create_with<R: Files>(rt: &R, alloc: Global, path: &str, bytes: &[u8]) -> Result<()> {
+    let mut made = create(rt, alloc, path)?;
+    made.write_all(bytes).context_ut(alloc, "create_with")
+}
+
+/// Opens and reads a file.
+fn open_and_read<R: Files>(rt: &R, alloc: Global, path: &str) -> Result<Vec<u8>> {
+    let opened = open(rt, alloc, path)?;
+    let mut bytes = Vec::new(alloc);
+    match opened.read_all(&mut bytes) {
+        Ok(_) => Ok(bytes),
+        Err(cause) => Err(cause).context_ut(alloc, "open_and_read"),
+    }
+}
+
+impl Call {
+    /// The name of the call, as errors have it.
+    fn name(self) -> &'static str {
+        match self {
+            Call::Append(_) => "append",
+            Call::Create(_) => "create",
+            Call::CreateDirAll => "create_dir_all",
+            Call::Metadata => "metadata",
+            Call::Open => "open",
+            Call::Read => "read",
+            Call::ReadBytes => "read_bytes",
+            Call::RemoveDir => "remove_dir",
+            Call::RemoveDirAll => "remove_dir_all",
+            Call::RemoveFile => "remove_file",
+            Call::Write(_) => "write",
+            Call::WriteAtomic(_) => "write_atomic",
+            Call::WriteIfChanged(_) => "write_if_changed",
+        }
+    }
+
+    /// Makes the call.
+    pub fn run<R: Files>(self, rt: &R, alloc: Global, path: &str) -> Result<()> {
+        match self {
+            Call::Append(bytes) => append(rt, alloc, path, bytes),
+            Call::Create(bytes) => create_with(rt, alloc, path, bytes),
+            Call::CreateDirAll => create_dir_all(rt, alloc, path),
+            Call::Metadata => done(metadata(rt, alloc, path)),
+            Call::Open => done(open_and_read(rt, alloc, path)),
+            Call::Read => done(read(rt, alloc, path)),
+            Call::ReadBytes => done(read_bytes(rt, alloc, path)),
+            Call::RemoveDir => remove_dir(rt, alloc, path),
+            Call::RemoveDirAll => remove_dir_all(rt, alloc, path),
+            Call::RemoveFile => remove_file(rt, alloc, path),
+            Call::Write(bytes) => write(rt, alloc, path, bytes),
+            Call::WriteAtomic(bytes) => write_atomic(rt, alloc, path, bytes),
+            Call::WriteIfChanged(bytes) => write_if_changed(rt, alloc, path, bytes),
+        }
+    }
+}
+
+/// The result without its value.
+fn done<T: Drop>(answer: Result<T>) -> Result<()> {
+    match answer {
+        Ok(_) => Ok(()),
+        Err(error) => Err(error),
+    }
+}
+
+/// The error of a call names it and the path.
+pub fn expect_named<T>(rt: &impl Abort, answer: Result<T>, call: &str, path: &str) {
+    match answer {
+        Ok(_) => panic!(rt; "{call} went through"),
+        Err(error) => {
+            assert_eq!(rt; error.loc(), call);
+            assert!(rt;
+                matches!(error.arguments(), [("path", named), _] if named.as_str() == path)
+            );
+        }
+    }
+}
+
+/// The bytes of the file, read by both calls.
+pub fn expect_bytes<R: Files + Abort>(
+    rt: &R,
+    alloc: Global,
+    path: &str,
+    want: &[u8],
+) -> Result<()> {
+    let bytes = read_bytes(rt, alloc, path)?;
+    assert_eq!(rt; bytes.as_slice(), want, "at {path}");
+    let bytes = open_and_read(rt, alloc, path)?;
+    assert_eq!(rt; bytes.as_slice(), want, "at {path}");
+    Ok(())
+}
+
+/// The permissions of a file, with the bits for set-user-id and the like.
+fn mode<R: Files>(rt: &R, alloc: Global, path: &str) -> Result<u32> {
+    Ok(metadata(rt, alloc, path)?.permissions().mode() & 0o7777)
+}
+
+/// A time long past.
+fn long_ago(alloc: Global) -> Result<SystemTime> {
+    UNIX_EPOCH
+        .checked_add(Duration::from_secs(1_000_000))
+        .context(alloc, "long_ago")
+}
+
+fn set_old<R: Files<File = File>>(rt: &R, alloc: Global, path: &str) -> Result<()> {
+    let times = FileTimes::new().set_modified(long_ago(alloc)?);
+    age(rt, path, times).context_ut(alloc, "set_old")
+}
+
+fn age<R: Files<File = File>>(rt: &R, path: &str, times: FileTimes) -> io::Result<()> {
+    let opened = OpenOptions::new().write(true).open(rt, path)?;
+    opened.set_times(times)
+}
+
+fn is_old<R: Files>(rt: &R, alloc: Global, path: &str) -> Result<bool> {
+    let written = metadata(rt, alloc, path)?
+        .modified()
+        .context_ut(alloc, "is_old")?;
+    Ok(written == long_ago(alloc)?)
+}
+
+/// What is done at a path.
+fn act<R: Files<File = File> + Abort>(
+    rt: &R,
+    alloc: Global,
+    folder: &str,
+    path: &str,
+    step: Step,
+) -> Result<()> {
+    match step {
+        Step::Does(call) => call.run(rt, alloc, path)?,
+        Step::Fails(call) => expect_named(rt, call.run(rt, alloc, path), call.name(), path),
+        Step::Copies(to, count) => {
+            let to = below(alloc, folder, to)?;
+            assert_eq!(rt; copy(rt, alloc, path, to.as_str())?, count);
+        }
+        Step::SetMode(mode) => {
+            fs::set_permissions(rt, path, Permissions::from_mode(mode)).context_ut(
+                alloc, "set_mode",
+            )?;
+        }
+        Step::SetOld => set_old(rt, alloc, path)?,
+        other => find(rt, alloc, path, other)?,
+    }
+    Ok(())
+}
+
+/// What is found at a path.
+fn find<R: Files + Abort>(rt: &R, alloc: Global, path: &str, step: Step) -> Result<()> {
+    match step {
+        Step::Holds(bytes) => expect_bytes(rt, alloc, path, bytes)?,
+        Step::HasLength(length) => assert_eq!(rt; metadata(rt, alloc, path)?.len(), length),
+        Step::HasMode(want) => assert_eq!(rt; mode(rt, alloc, path)?, want, "at {path}"),
+        Step::IsOld(want) => assert_eq!(rt; is_old(rt, alloc, path)?, want, "at {path}"),
+        Step::IsFolder => assert!(rt; metadata(rt, alloc, path)?.is_dir()),
+        Step::IsMissing => assert!(rt; metadata(rt, alloc, path).is_err(), "at {path}"),
+        _ => panic!(rt; "nothing to find"),
+    }
+    Ok(())
+}
+
+/// Takes the rows in their order.
+pub fn take<R: Files<File = File> + Abort>(
+    rt: &R,
+    alloc: Global,
+    folder: &str,
+    rows: &[Row],
+) -> Result<()> {
+    for (name, step) in rows {
+        let path = below(alloc, folder, name)?;
+        act(rt, alloc, folder, path.as_str(), *step)?;
+    }
+    Ok(())
+}
