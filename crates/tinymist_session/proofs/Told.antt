@@ -1,4 +1,4 @@
--- What is told of an answer, and an answer that gives way to want of memory.
+-- What is told of an answer, and an answer that gives way to out of memory.
 use Rattle.std.proofs.Common.{◌≡◌, ◌⊎◌, ℕ, ◌≤◌, Bool, true, false, List, [], refl, sym, ap, ◌∙◌, arith, inl, inr, append-nil, Option, Some, Result, Err}
 use Rattle.std.specs.Io.KnownBytes.{append_known}
 use Rattle.ty_model.specs.Disk.{Told}

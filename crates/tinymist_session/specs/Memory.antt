@@ -59,7 +59,7 @@ pub record SinkHolds : Type 0 where
   pub dry : ℕ
   pub flushed : Bool
 
--- a write takes as much as is let, and want of memory is a fault
+-- a write takes as much as is let, and out of memory is a fault
 abbrev pub WritesNext : SinkHolds → WriteStep → List ℕ → Type 0
 WritesNext s (wrote.Took n) piece = (is_listed s.fails s.calls ≡ false) × (n ≡ at_most_next s.most (length piece))
 WritesNext s wrote.Failed piece = ⊤

@@ -11,7 +11,7 @@ use Rattle.tinymist_session.specs.Lf.{IsLine}
 use Rattle.tinymist_session.specs.declared.session.SessionFault.{SessionFault}
 use Rattle.tinymist_session.specs.declared.session.SessionFault.TheVariants.{ReadFault, WriteFault, BadLine, Full, OutOfMemory}
 
--- the answers that go with an end: each of these ends has one, and a fault or want of memory may come in its place
+-- the answers that go with an end: each of these ends has one, and a fault or out of memory may come in its place
 abbrev pub EndFits : End → Result (Unit {0}) SessionFault → Type 0
 EndFits end (Ok done) = end ≡ Whole
 EndFits end (Err (BadLine n)) = end ≡ Bad n
@@ -59,7 +59,7 @@ pub record TakenWithin (most : ℕ) (input : List ℕ) (left : Option (List ℕ)
 abbrev pub most_bytes : session.Limits → ℕ
 most_bytes limits = limits.max_lines * (limits.max_line + 1) + 65536
 
--- this holds, unless the session was cut off by a fault or want of memory
+-- this holds, unless the session was cut off by a fault or out of memory
 abbrev pub UnlessCutOff : Result (Unit {0}) SessionFault → Type 0 → Type 0
 UnlessCutOff (Ok done) P = P
 UnlessCutOff (Err (BadLine n)) P = P

@@ -159,7 +159,7 @@ impl Model for MemorySink {
 impl MemorySink {
     /// A sink that has taken these bytes, where each write takes at most the next of these numbers, and the
     /// calls with these numbers fail, writes and flushes counted together from 1 on. 0 is a dry take. After
-    /// the last number a write takes all. Want of memory is a fault too.
+    /// the last number a write takes all. Out of memory is a fault too.
     pub fn new(bytes: Vec<u8>, most: Vec<usize>, fails: Vec<u64>) -> MemorySink
         ensures { result ≡ record { taken = bytes.items; most = most.items; fails = fails.items; calls = 0; faults = 0; dry = 0; flushed = false } }
     {

@@ -26,7 +26,7 @@ const NO_MEMORY: &str = "out of memory\n";
 ///
 /// No words, or `session` and then `--max-line N` and `--max-lines N` in any order and each at most once, run a
 /// session. Its status is 0, 1 of a read fault, 2 of a write fault, 3 of a bad line, 4 of too many lines or 5 of
-/// want of memory. All other words have the status 6. `faults` is told one line for each status but 0.
+/// out of memory. All other words have the status 6. `faults` is told one line for each status but 0.
 pub fn run_program<S: LineSource, W: ByteSink, F: ByteSink, M: PathAccessModel>(
     alloc: Global,
     words: &[String],
@@ -68,7 +68,7 @@ pub fn out_of_memory<F: ByteSink>(faults: &mut F) -> u8
     OUT_OF_MEMORY
 }
 
-/// Tells the line of an answer, and gives the answer that was told: want of memory where the line found none.
+/// Tells the line of an answer, and gives the answer that was told: out of memory where the line found none.
 fn tell_answer<F: ByteSink>(
     alloc: Global,
     faults: &mut F,

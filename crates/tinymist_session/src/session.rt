@@ -229,7 +229,7 @@ impl Session {
 }
 
 /// Flushes what was written, but after a fault of the source or the sink, where nothing more is asked of either. A
-/// flush that fails is a write fault, but after want of memory.
+/// flush that fails is a write fault, but after out of memory.
 #[tactic(auto, using(crate::proofs::Told::flushed_or_rose))]
 fn finish<W: ByteSink>(sink: &mut W, answer: Result<(), SessionFault>) -> Result<(), SessionFault>
     ensures same { (result ≡ answer) ⊎ (result ≡ Err SessionFault.WriteFault) }

@@ -33,7 +33,7 @@ IsMessageCause text no_memory = ⊥
 abbrev pub IsMessageOf : Option (List ℕ) → Kind → Type 0
 IsMessageOf text k = UnlessMemory k ((k.within ≡ []) × IsMessageCause text k.cause)
 
--- the kind that an error gives to another: a message of its printed text, but want of memory stays that
+-- the kind that an error gives to another: a message of its printed text, but out of memory stays that
 abbrev pub IsKindFrom : Failure → Kind → Type 0
 IsKindFrom f k = IsMessageOf (printed_text f) k × (lacks_memory f.kind ≡ true → k ≡ plain no_memory)
 

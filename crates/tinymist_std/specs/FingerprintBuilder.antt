@@ -30,7 +30,7 @@ module _ {B : Type 0} where
   abbrev pub KeepsAll : FingerprintBuilder B → FingerprintBuilder B → Type 0
   KeepsAll old new = (g : Halves) → kept_data new g ≡ kept_data old g
 
--- a conflict carries the kept data and the given, which differ; want of memory says nothing
+-- a conflict carries the kept data and the given, which differ; out of memory says nothing
 abbrev pub IsConflict : Option (List ℕ) → List ℕ → ResolveFault → Type 0
 IsConflict kept given (Conflict a b) = (kept ≡ Some a.items) × (b.items ≡ given) × (a.items ≢ given)
 IsConflict kept given OutOfMemory = Unit {0}

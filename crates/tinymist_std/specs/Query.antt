@@ -33,7 +33,7 @@ module _ {T E C : Type 0} where
   known_result q n = known_of (known_value q) n.seen.known
 
 module _ {T E : Type 0} where
-  -- what is known is the value or the error of the answer, and the answer is no want of memory
+  -- what is known is the value or the error of the answer, and the answer is not out of memory
   abbrev pub Tells : Option (Result T E) → Result (Bor T) (QueryFault E) → Type 0
   Tells known (Ok x) = known ≡ Some (Ok x.now)
   Tells known (Err (Query e)) = known ≡ Some (Err e.now)

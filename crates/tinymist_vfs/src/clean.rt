@@ -86,7 +86,7 @@ impl<R: RootResolver> Vfs<R> {
     ///
     /// # Errors
     ///
-    /// Only want of memory.
+    /// Only out of memory.
     pub fn is_clean_compile<L: Ledger>(
         &self,
         rev: u64,

@@ -79,7 +79,7 @@ impl<R: RootResolver> Vfs<R> {
         }
     }
 
-    /// The source of an id: the text of what `read` gives, after at most one mark of order.
+    /// The source of an id: the text of what `read` gives, after at most one byte order mark.
     ///
     /// # Errors
     ///

@@ -5,7 +5,7 @@ use Rattle.ty_model.specs.Values.{Answer}
 use Rattle.ty_model.specs.Disk.{Told, Rest, AllDenied, IsFixed, rest_says, answer_of, after_ask}
 use Rattle.ty_path.specs.declared.memory.OutOfMemory.{OutOfMemory}
 
--- a disk that tells answers as told; want of memory drops no answer, and what is untold stays untold
+-- a disk that tells answers as told; out of memory drops no answer, and what is untold stays untold
 abbrev pub AnswersAsTold : Option Told → List ℕ → Result Answer OutOfMemory → Option Told → Type 0
 AnswersAsTold None path result after = after ≡ None
 AnswersAsTold (Some told) path (Ok answer) after = (answer ≡ answer_of told path) × (after ≡ Some (after_ask told path))

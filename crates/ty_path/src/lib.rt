@@ -1,4 +1,4 @@
-//! Paths as texts, values that can be shared, and want of memory.
+//! Paths as texts, values that can be shared, and out of memory.
 #![tactic(auto)]
 
 mod clean_path;

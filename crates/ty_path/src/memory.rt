@@ -1,4 +1,4 @@
-//! Want of memory, and the names of shared texts and bytes.
+//! Out of memory, and the names of shared texts and bytes.
 
 use std::alloc::{AllocError, AllocFailed};
 use std::sync::Arc;

@@ -3,7 +3,7 @@ use Rattle.std.specs.Prelude.{ℕ, ◌-◌, Bool, not, ◌&&◌, if◌then◌els
 use Rattle.std.specs.List.{sum_by, count_by}
 use Rattle.std.specs.Str.{is_utf8, bytes_eq}
 
--- the mark of order that may stand before a text
+-- the byte order mark that may stand before a text
 abbrev pub mark : List ℕ
 mark = 0xEF ∷ 0xBB ∷ 0xBF ∷ []
 

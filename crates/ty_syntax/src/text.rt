@@ -10,10 +10,10 @@ use crate::error::{FileError, FileFault, FileResult};
 use std::alloc::Global;
 use ty_path::OutOfMemory;
 
-/// The mark of order of UTF-8.
+/// The byte order mark of UTF-8.
 static MARK: [u8; 3] = [0xEF, 0xBB, 0xBF];
 
-/// The text of bytes: what follows at most one mark of order.
+/// The text of bytes: what follows at most one byte order mark.
 ///
 /// # Errors
 ///
