@@ -19,7 +19,7 @@ unfolding IsDistinct
 no_file files none = subst (λ (fs : Files). IsDistinct bytes_eq (map path_of fs)) (sym none) tt
 
 pub new-requires-2 : goal.new-requires-2
-new-requires-2 c = elim c.match-file.branch [
-  | in-Some+in_ok-to_vec+in_ok-new+in_ok-from_str+in_ok-push w ↦ one_file c.match-file.files.items c.new-files.result.items _ (ap (λ (v : Vec (String Global × Answer) Global). v.items) w.files-is ∙ w.in_ok-push.ensures.items) c.new-files.ensures.items
-  | in_default w ↦ no_file c.match-file.files.items (ap (λ (v : Vec (String Global × Answer) Global). v.items) w.files-is ∙ c.new-files.ensures.items)
+new-requires-2 c = elim c.match-path.branch [
+  | in-Some+in_ok-to_vec+in_ok-new+in_ok-from_str+in_ok-push w ↦ one_file c.match-path.files.items c.new-files.result.items _ (ap (λ (v : Vec (String Global × Answer) Global). v.items) w.files-is ∙ w.in_ok-push.ensures.items) c.new-files.ensures.items
+  | in_default w ↦ no_file c.match-path.files.items (ap (λ (v : Vec (String Global × Answer) Global). v.items) w.files-is ∙ c.new-files.ensures.items)
 ]
