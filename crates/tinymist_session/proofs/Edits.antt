@@ -13,7 +13,7 @@ use Rattle.ty_model.specs.Values.{Id}
 use Rattle.ty_model.specs.Version.{Version}
 use Rattle.ty_model.proofs.Standing.{held_stands}
 use Rattle.tinymist_vfs.specs.Commits.{committed}
-use Rattle.tinymist_vfs.specs.declared.resolver.MockRootResolver.{MockRootResolver}
+use Rattle.tinymist_vfs.specs.declared.ids.resolver.MockRootResolver.{MockRootResolver}
 use Rattle.tinymist_session.specs.Command.{IdWord}
 use Rattle.tinymist_session.specs.declared.tagged.TaggedIds.{TaggedIds}
 use Rattle.tinymist_session.specs.Machine.{State, space_at, with_space, edit_in, edit_step, id_edit_step, id_for, on_named, edited}

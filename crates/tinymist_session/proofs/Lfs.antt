@@ -7,7 +7,8 @@ use Rattle.std.specs.List.{list_any}
 use Rattle.memchr.specs.Find.{IsFirstByte, is_byte}
 use Rattle.tinymist_session.specs.Lf.{IsLine}
 
-not_true : (b : Bool) → ¬ (b ≡ true) → b ≡ false
+-- a test that isn't true
+pub not_true : (b : Bool) → ¬ (b ≡ true) → b ≡ false
 not_true true h = absurd (h refl)
 not_true false h = refl
 

@@ -17,3 +17,6 @@ pub mod Bounds
 pub mod Runs
 pub mod Options
 pub mod Told
+pub mod Pairs
+pub mod Detached
+pub mod FieldCuts

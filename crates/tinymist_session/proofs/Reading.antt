@@ -8,7 +8,7 @@ use Rattle.ty_model.specs.Places.{detached_entry}
 use Rattle.ty_model.specs.Held.{Kept}
 use Rattle.ty_model.specs.Disk.{Told}
 use Rattle.ty_model.specs.Space.{Space}
-use Rattle.tinymist_vfs.specs.declared.resolver.MockRootResolver.{MockRootResolver}
+use Rattle.tinymist_vfs.specs.declared.ids.resolver.MockRootResolver.{MockRootResolver}
 use Rattle.tinymist_session.specs.declared.tagged.TaggedIds.{TaggedIds}
 use Rattle.tinymist_session.specs.Command.{IdWord}
 use Rattle.tinymist_session.specs.Reply.{Reply}

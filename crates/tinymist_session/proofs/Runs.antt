@@ -4,7 +4,7 @@ use Rattle.std.specs.Io.KnownBytes.{append_known}
 use Rattle.ty_model.specs.Held.{Kept}
 use Rattle.tinymist_session.specs.declared.tagged.TaggedIds.{TaggedIds}
 use Rattle.ty_model.specs.Disk.{Told}
-use Rattle.tinymist_vfs.specs.declared.resolver.MockRootResolver.{MockRootResolver}
+use Rattle.tinymist_vfs.specs.declared.ids.resolver.MockRootResolver.{MockRootResolver}
 use Rattle.tinymist_session.specs.Machine.{State, step, opening}
 use Rattle.tinymist_session.specs.Reply.{reply_line}
 use Rattle.tinymist_session.specs.Session as session

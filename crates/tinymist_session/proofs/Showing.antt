@@ -7,7 +7,7 @@ use Rattle.ty_model.specs.Counters.{Counters}
 use Rattle.ty_model.specs.Values.{Id}
 use Rattle.ty_model.specs.Version.{Version}
 use Rattle.ty_syntax.specs.declared.tags.TagFault.{TagFault}
-use Rattle.tinymist_vfs.specs.declared.resolver.MockRootResolver.{MockRootResolver}
+use Rattle.tinymist_vfs.specs.declared.ids.resolver.MockRootResolver.{MockRootResolver}
 use Rattle.tinymist_session.specs.Command.{IdWord}
 use Rattle.tinymist_session.specs.declared.tagged.TaggedIds.{TaggedIds}
 use Rattle.tinymist_session.specs.Machine.{State, Stepped, view_at, space_at, id_for, ids_for, on_named, replied, snapshot_step}

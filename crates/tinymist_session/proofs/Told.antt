@@ -46,9 +46,9 @@ same_limits a b read e f = cc
 pub read_kept : (r r' : Result (Unit {0}) SessionFault) → (r' ≡ r) ⊎ (r' ≡ Err WriteFault) → r' ≡ Err ReadFault → r ≡ Err ReadFault
 read_kept r r' same e = elim same [ inl is ↦ cc | inr is ↦ absurd (cc) ]
 
-module _ (limits : Limits) (left left' : Option (List ℕ)) (disk : Option Told) (taken taken' : Option (List ℕ)) (flushed' : Bool) (reads reads' faults faults' dry dry' : ℕ) where
+module _ (limits : Limits) (left left' : Option (List ℕ)) (disk disk' : Option Told) (taken taken' : Option (List ℕ)) (flushed' : Bool) (reads reads' faults faults' dry dry' : ℕ) where
   abbrev Of : Result (Unit {0}) SessionFault → Type 0
-  Of r = Answered limits left left' disk taken taken' flushed' reads reads' faults faults' dry dry' r
+  Of r = Answered limits left left' disk disk' taken taken' flushed' reads reads' faults faults' dry dry' r
 
   no_memory : (n : ℕ) → Of (Err (BadLine n)) → Of (Err OutOfMemory)
   no_memory n a = record {
@@ -57,7 +57,9 @@ module _ (limits : Limits) (left left' : Option (List ℕ)) (disk : Option Told)
     received = λ input is e. absurd (cc);
     answered = λ input told is d fixed e. absurd (cc);
     bounded = a.bounded;
+    disk_stays = a.disk_stays;
     read = tt;
+    was_flushed_before_read = λ e. absurd (cc);
     was_flushed = tt;
     was_flushed_without_memory = λ e. inl a.was_flushed;
     read_cause = λ e. absurd (cc);

@@ -3,7 +3,7 @@ use Rattle.std.specs.Prelude.{◌≡◌, ℕ, ◌+◌, ◌*◌, ◌≤◌, List,
 use Rattle.std.specs.Io.KnownBytes.{append_known}
 use Rattle.ty_model.specs.Disk.{Told}
 use Rattle.ty_model.specs.Held.{Kept}
-use Rattle.tinymist_vfs.specs.declared.resolver.MockRootResolver.{MockRootResolver}
+use Rattle.tinymist_vfs.specs.declared.ids.resolver.MockRootResolver.{MockRootResolver}
 use Rattle.tinymist_session.specs.declared.tagged.TaggedIds.{TaggedIds}
 use Rattle.tinymist_session.specs.Command.{Command}
 use Rattle.tinymist_session.specs.Lf.{IsLine}

@@ -1,5 +1,5 @@
 -- A change set of the code as the changes of a line.
-use Rattle.tinymist_vfs.specs.declared.item.FileChangeSet.{FileChangeSet}
+use Rattle.tinymist_vfs.specs.declared.batch.item.FileChangeSet.{FileChangeSet}
 use Rattle.tinymist_vfs.specs.ChangeSet.{removed_paths, inserted_files}
 use Rattle.tinymist_session.specs.Grammar.{Changes}
 

@@ -69,7 +69,7 @@ UnlessCutOff (Err WriteFault) P = ⊤
 UnlessCutOff (Err OutOfMemory) P = ⊤
 
 -- a session over a source, a disk and a sink: each as it was, and as it is
-pub record Answered (limits : session.Limits) (left left' : Option (List ℕ)) (disk : Option Told) (taken taken' : Option (List ℕ)) (flushed' : Bool)
+pub record Answered (limits : session.Limits) (left left' : Option (List ℕ)) (disk disk' : Option Told) (taken taken' : Option (List ℕ)) (flushed' : Bool)
     (reads reads' faults faults' dry dry' : ℕ) (r : Result (Unit {0}) SessionFault) : Type 0 where
   -- the answer goes with the end of the input
   pub ends : (input : List ℕ) → left ≡ Some input → EndFits (end_of limits input) r
@@ -81,8 +81,12 @@ pub record Answered (limits : session.Limits) (left left' : Option (List ℕ)) (
       → (lines : Received limits input left') × (taken' ≡ append_known taken (replies_received limits told input left' lines))
   -- the source is read no further than it needs
   pub bounded : (input : List ℕ) → left ≡ Some input → TakenWithin (most_bytes limits) input left'
+  -- a disk with one answer for each path is left as it was
+  pub disk_stays : (told : Told) → disk ≡ Some told → IsFixed told → disk' ≡ Some told
   -- only after the input was read to its end
   pub read : OnOk r (IsAtEnd left')
+  -- what was answered has gone on before the source is asked, so also where that read fails
+  pub was_flushed_before_read : IsErrOf r ReadFault → IsTrue flushed'
   -- what was written has gone on
   pub was_flushed : UnlessCutOff r (IsTrue flushed')
   -- so it has where memory ran out, or the flush failed

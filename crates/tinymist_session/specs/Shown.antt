@@ -5,7 +5,7 @@ use Rattle.ty_model.specs.Places.{Resolver}
 use Rattle.ty_model.specs.Version.{Version}
 use Rattle.ty_model.specs.Held.{Kept, version_of, Standing}
 use Rattle.ty_model.specs.Space.{Space}
-use Rattle.tinymist_vfs.specs.declared.resolver.MockRootResolver.{MockRootResolver}
+use Rattle.tinymist_vfs.specs.declared.ids.resolver.MockRootResolver.{MockRootResolver}
 use Rattle.tinymist_session.specs.declared.tagged.TaggedIds.{TaggedIds}
 use Rattle.tinymist_session.specs.declared.machine.Machine.{Machine}
 use Rattle.tinymist_session.specs.Machine.{State}

@@ -4,9 +4,9 @@ ghost use Rattle.std.specs.Option.{option_map};
 ghost use Rattle.tinymist_session.specs.Grammar as grammar;
 ghost use Rattle.tinymist_session.specs.Said.{content_said, id_said, fields_of};
 
+use crate::digits::decode;
 use crate::fields::first_field;
 use crate::words::{CleanPath, after_sign, number, path};
-use hex::FromHexError;
 use std::alloc::Global;
 use ty_cells::FileSnapshot;
 use ty_path::OutOfMemory;
@@ -70,10 +70,9 @@ pub(crate) fn content(alloc: Global, word: &str) -> Result<Option<ContentWord>, 
 fn bytes(alloc: Global, digits: &str) -> Result<Option<ContentWord>, OutOfMemory>
     ensures { IfOk result (λ content. option_map content_said content ≡ grammar.bytes_of digits.now) }
 {
-    match hex::decode(alloc, digits.as_bytes()) {
-        Ok(bytes) => Ok(Some(ContentWord::Bytes(bytes))),
-        Err(FromHexError::OutOfMemory) => Err(OutOfMemory),
-        Err(_) => Ok(None),
+    match decode(alloc, digits.as_bytes())? {
+        Some(bytes) => Ok(Some(ContentWord::Bytes(bytes))),
+        None => Ok(None),
     }
 }
 

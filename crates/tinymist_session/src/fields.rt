@@ -5,12 +5,17 @@ ghost use Rattle.ty_model.specs.Paths.{parts_at};
 ghost use Rattle.tinymist_session.specs.Grammar.{one_of, two_of, three_of, clean_sentence};
 ghost use Rattle.tinymist_session.specs.Said.{fields_of};
 
+use memchr::memchr;
+
 /// The first field, and the rest of the line after its tab.
 pub(crate) fn cut(text: &str) -> Option<(&str, &str)>
     ensures some { IfSome result (λ parts. parts_at 9 text.now ≡ parts.0.now ∷ parts_at 9 parts.1.now) }
     ensures none { IfNone result (parts_at 9 text.now ≡ text.now ∷ []) }
 {
-    text.split_once('\t')
+    match memchr(b'\t', text.as_bytes()) {
+        Some(at) => Some((&text[..at], &text[at + 1..])),
+        None => None,
+    }
 }
 
 /// The first field, and the fields after it.

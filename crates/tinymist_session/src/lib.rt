@@ -5,6 +5,7 @@ mod change_set;
 mod changes;
 mod command;
 mod content;
+mod digits;
 mod edit;
 mod fields;
 mod limits;

@@ -39,7 +39,7 @@ pub fn run_program<S: LineSource, W: ByteSink, F: ByteSink, M: PathAccessModel>(
     ensures untouched { result ≡ 6 → (source.new ≡ source.old) × (sink.new ≡ sink.old) × (disk.new ≡ disk.old) }
     ensures refused { result ≡ 6 → IsTold bad_words_line (F.taken faults.old) (F.taken faults.new) (F.flushed faults.new) (F.faults faults.old) (F.faults faults.new) (F.dry faults.old) (F.dry faults.new) }
     ensures session { (limits : Limits) → limits_in (map string_bytes words.now) ≡ Some limits → (r : Result (Unit {0}) SessionFault) × (result ≡ status_of r)
-        × Answered limits (S.left source.old) (S.left source.new) (M.told disk.old) (W.taken sink.old) (W.taken sink.new) (W.flushed sink.new)
+        × Answered limits (S.left source.old) (S.left source.new) (M.told disk.old) (M.told disk.new) (W.taken sink.old) (W.taken sink.new) (W.flushed sink.new)
         (S.faults source.old) (S.faults source.new) (W.faults sink.old) (W.faults sink.new) (W.dry sink.old) (W.dry sink.new) r
         × IsTold (fault_line r) (F.taken faults.old) (F.taken faults.new) (F.flushed faults.new) (F.faults faults.old) (F.faults faults.new) (F.dry faults.old) (F.dry faults.new) }
 {

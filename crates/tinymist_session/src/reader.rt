@@ -119,6 +119,7 @@ impl LineReader {
         ensures taken { W.taken sink.new ≡ W.taken sink.old }
         ensures flush_cause { HasCause (result ≡ LineRead.FlushFailed) (W.faults sink.old) (W.faults sink.new) }
         ensures dry { W.dry sink.old ≤ W.dry sink.new }
+        ensures flushed { result ≡ LineRead.ReadFailed → IsTrue (W.flushed sink.new) }
     {
         self.begin();
         while self.gathered.len() <= max_line as usize {
@@ -142,6 +143,7 @@ impl LineReader {
         ensures taken { W.taken sink.new ≡ W.taken sink.old }
         ensures flush_cause { HasCause (result ≡ Part.FlushFailed) (W.faults sink.old) (W.faults sink.new) }
         ensures dry { W.dry sink.old ≤ W.dry sink.new }
+        ensures flushed { result ≡ Part.ReadFailed → IsTrue (W.flushed sink.new) }
     {
         if self.from < self.to {
             return self.take_part();
@@ -167,6 +169,7 @@ impl LineReader {
         ensures taken { W.taken sink.new ≡ W.taken sink.old }
         ensures flush_cause { HasCause (result ≡ Filled.FlushFailed) (W.faults sink.old) (W.faults sink.new) }
         ensures dry { W.dry sink.old ≤ W.dry sink.new }
+        ensures flushed { result ≡ Filled.ReadFailed → IsTrue (W.flushed sink.new) }
     {
         if self.from < self.to {
             return Filled::Some;

@@ -1,12 +1,15 @@
 //! Replies and their lines.
-ghost use Rattle.std.specs.Prelude.{◌≡◌, ◌∷◌, ◌++◌, [], IfOk, map};
+ghost use Rattle.std.specs.Prelude.{◌≡◌, ◌∷◌, ◌++◌, [], IfOk, OnOk, map};
+ghost use Rattle.std.specs.Fmt.{decimal};
 ghost use Rattle.std.specs.String.{string_bytes};
 ghost use Rattle.hex.specs.Hex.{encode_lower};
 ghost use Rattle.ty_path.specs.Shared.{path_text};
-ghost use Rattle.tinymist_session.specs.Reply.{reply_line, fail_word, id_word, AtPlace, Contents, Text, PathList, IdList};
+ghost use Rattle.tinymist_session.specs.Reply.{reply_line, fail_word, id_word, AtPlace, PathList, IdList};
 ghost use Rattle.ty_syntax.specs.Error.{refusal_of};
 ghost use Rattle.tinymist_session.specs.Said.{reply_of};
 
+use crate::digits::encode;
+use itoa::Buffer;
 use std::alloc::{AllocError, Global};
 use tinymist_vfs::WorkspaceResolver;
 use ty_path::ImmutPath;
@@ -68,69 +71,87 @@ fn fail_text(error: &FileError) -> &'static str
 pub fn line_of(alloc: Global, reply: Reply) -> Result<Vec<u8>, AllocError>
     ensures { IfOk result (λ line. line.items ≡ reply_line (reply_of reply)) }
 {
-    let text = match reply {
-        Reply::AtRevision(revision) => format!(in alloc; "ok\t{revision}\n"),
-        Reply::ViewNumber(number) => format!(in alloc; "view\t{number}\n"),
-        Reply::Contents(bytes) => return contents_line(alloc, bytes.as_slice()),
-        Reply::Text(source) => return text_line(alloc, source.text()),
-        Reply::AtPlace(place) => return place_line(alloc, place),
-        Reply::Fails(error) => {
-            let word = fail_text(&error);
-            format!(in alloc; "fail\t{word}\n")
-        }
-        Reply::PathList(paths) => return paths_line(alloc, &paths),
-        Reply::IdList(ids) => return ids_line(alloc, &ids),
-        Reply::IdTag(tag) => format!(in alloc; "id\t#{tag}\n"),
-        Reply::AtPath(path) => {
-            let path = path.as_str();
-            format!(in alloc; "path\t{path}\n")
-        }
-        Reply::RootlessAt(vpath) => {
-            let vpath = vpath.get_with_slash();
-            format!(in alloc; "rootless\t{vpath}\n")
-        }
-        Reply::IsClean(true) => String::from_str(alloc, "clean\n"),
-        Reply::IsClean(false) => String::from_str(alloc, "dirty\n"),
-        Reply::BadView => String::from_str(alloc, "err\tview\n"),
-        Reply::BadId => String::from_str(alloc, "err\tid\n"),
-        Reply::BadRevision => String::from_str(alloc, "err\trevision\n"),
-        Reply::BadOffset => String::from_str(alloc, "err\toffset\n"),
-    };
-    Ok(text?.into_bytes())
+    let mut line = Vec::new(alloc);
+    put_line(alloc, &mut line, reply)?;
+    Ok(line)
+}
+
+/// Puts the line of a reply into a buffer, in place of what that holds.
+pub(crate) fn put_line(alloc: Global, line: &mut Vec<u8>, reply: Reply) -> Result<(), AllocError>
+    ensures { OnOk result (line.new.items ≡ reply_line (reply_of reply)) }
+{
+    match reply {
+        Reply::AtRevision(revision) => put_number(line, b"ok\t", revision),
+        Reply::ViewNumber(number) => put_number(line, b"view\t", number as u64),
+        Reply::Contents(bytes) => put_digits(line, b"bytes\t", bytes.as_slice()),
+        Reply::Text(source) => put_digits(line, b"text\t", source.text().as_bytes()),
+        Reply::AtPlace(place) => put_place(alloc, line, place),
+        Reply::Fails(error) => put_text(line, b"fail\t", fail_text(&error)),
+        Reply::PathList(paths) => put_paths(line, &paths),
+        Reply::IdList(ids) => put_ids(alloc, line, &ids),
+        Reply::IdTag(tag) => put_number(line, b"id\t#", tag),
+        Reply::AtPath(path) => put_text(line, b"path\t", path.as_str()),
+        Reply::RootlessAt(vpath) => put_text(line, b"rootless\t", vpath.get_with_slash()),
+        Reply::IsClean(true) => put_text(line, b"", "clean"),
+        Reply::IsClean(false) => put_text(line, b"", "dirty"),
+        Reply::BadView => put_text(line, b"err\t", "view"),
+        Reply::BadId => put_text(line, b"err\t", "id"),
+        Reply::BadRevision => put_text(line, b"err\t", "revision"),
+        Reply::BadOffset => put_text(line, b"err\t", "offset"),
+    }
+}
+
+/// A front and a text.
+fn put_text(line: &mut Vec<u8>, front: &[u8], text: &str) -> Result<(), AllocError>
+    ensures { OnOk result (line.new.items ≡ front.now ++ text.now ++ 10 ∷ []) }
+{
+    line.clear();
+    line.extend_from_slice(front)?;
+    line.extend_from_slice(text.as_bytes())?;
+    line.push(b'\n')?;
+    Ok(())
+}
+
+/// A front and a number.
+fn put_number(line: &mut Vec<u8>, front: &[u8], number: u64) -> Result<(), AllocError>
+    ensures { OnOk result (line.new.items ≡ front.now ++ decimal number ++ 10 ∷ []) }
+{
+    let mut digits = Buffer::new();
+    put_text(line, front, digits.format(number))
 }
 
 /// The line of a place.
-fn place_line(alloc: Global, place: Place) -> Result<Vec<u8>, AllocError>
-    ensures { IfOk result (λ line. line.items ≡ reply_line (AtPlace place)) }
+fn put_place(alloc: Global, line: &mut Vec<u8>, place: Place) -> Result<(), AllocError>
+    ensures { OnOk result (line.new.items ≡ reply_line (AtPlace place)) }
 {
     let Place {
-        line,
+        line: row,
         column,
         utf16,
     } = place;
-    let text = format!(in alloc; "at\t{line}\t{column}\t{utf16}\n")?;
-    Ok(text.into_bytes())
+    let text = format!(in alloc; "{row}\t{column}\t{utf16}")?;
+    put_text(line, b"at\t", text.as_str())
 }
 
 /// The line of a list of paths.
-fn paths_line(alloc: Global, paths: &[ImmutPath]) -> Result<Vec<u8>, AllocError>
-    ensures { IfOk result (λ line. line.items ≡ reply_line (PathList (map path_text paths.now))) }
+fn put_paths(line: &mut Vec<u8>, paths: &[ImmutPath]) -> Result<(), AllocError>
+    ensures { OnOk result (line.new.items ≡ reply_line (PathList (map path_text paths.now))) }
 {
-    let mut line = Vec::new(alloc);
+    line.clear();
     line.extend_from_slice(b"paths")?;
     for path in paths {
         line.push(b'\t')?;
         line.extend_from_slice(path.as_bytes())?;
     }
     line.push(b'\n')?;
-    Ok(line)
+    Ok(())
 }
 
 /// The line of a list of ids.
-fn ids_line(alloc: Global, ids: &[FileId]) -> Result<Vec<u8>, AllocError>
-    ensures { IfOk result (λ line. line.items ≡ reply_line (IdList ids.now)) }
+fn put_ids(alloc: Global, line: &mut Vec<u8>, ids: &[FileId]) -> Result<(), AllocError>
+    ensures { OnOk result (line.new.items ≡ reply_line (IdList ids.now)) }
 {
-    let mut line = Vec::new(alloc);
+    line.clear();
     line.extend_from_slice(b"ids")?;
     for id in ids {
         line.push(b'\t')?;
@@ -138,7 +159,7 @@ fn ids_line(alloc: Global, ids: &[FileId]) -> Result<Vec<u8>, AllocError>
         line.extend_from_slice(word.as_bytes())?;
     }
     line.push(b'\n')?;
-    Ok(line)
+    Ok(())
 }
 
 /// An id as it is written: its path below a workspace, its package and the path in it, or its tag.
@@ -157,35 +178,22 @@ fn id_word(alloc: Global, id: &FileId) -> Result<String, AllocError>
     }
 }
 
-/// The line of the bytes of a file.
-fn contents_line(alloc: Global, bytes: &[u8]) -> Result<Vec<u8>, AllocError>
-    ensures { IfOk result (λ line. line.items ≡ reply_line (Contents bytes.now)) }
-{
-    hex_line(alloc, b"bytes\t", bytes)
-}
-
-/// The line of a text.
-fn text_line(alloc: Global, text: &str) -> Result<Vec<u8>, AllocError>
-    ensures { IfOk result (λ line. line.items ≡ reply_line (Text text.now)) }
-{
-    hex_line(alloc, b"text\t", text.as_bytes())
-}
-
-/// A word and the digits of bytes. The line takes its memory once, and the digits are encoded where they stand in it.
-fn hex_line(alloc: Global, word: &[u8], bytes: &[u8]) -> Result<Vec<u8>, AllocError>
-    ensures { IfOk result (λ line. line.items ≡ word.now ++ encode_lower bytes.now ++ 10 ∷ []) }
+/// A front and the digits of bytes. The line takes its memory once, and the digits are put where they stand in it.
+fn put_digits(line: &mut Vec<u8>, front: &[u8], bytes: &[u8]) -> Result<(), AllocError>
+    ensures { OnOk result (line.new.items ≡ front.now ++ encode_lower bytes.now ++ 10 ∷ []) }
 {
     let Some(size) = bytes
         .len()
         .checked_mul(2)
-        .and_then(|digits| digits.checked_add(word.len() + 1))
+        .and_then(|digits| digits.checked_add(front.len() + 1))
     else {
         return Err(AllocError);
     };
-    let mut line = Vec::with_capacity(alloc, size)?;
-    line.extend_from_slice(word)?;
+    line.clear();
+    line.reserve(size)?;
+    line.extend_from_slice(front)?;
     line.resize(size - 1, b'0')?;
-    let _written = hex::encode_to_slice(bytes, &mut line[word.len()..]);
+    encode(bytes, &mut line[front.len()..]);
     line.push(b'\n')?;
-    Ok(line)
+    Ok(())
 }

@@ -19,7 +19,7 @@ use crate::command::read_command;
 use crate::limits::Limits;
 use crate::machine::Machine;
 use crate::reader::{Filled, LineRead, LineReader};
-use crate::reply::line_of;
+use crate::reply::put_line;
 use crate::sink::{ByteSink, FlushStep, write_all};
 use crate::source::LineSource;
 use std::alloc::{AllocError, Global};
@@ -73,6 +73,8 @@ struct Session {
     alloc: Global,
     machine: Machine,
     reader: LineReader,
+    // The line of the last reply, whose memory serves the next one.
+    line: Vec<u8>,
 }
 
 impl Session {
@@ -86,6 +88,7 @@ impl Session {
             alloc,
             machine: Machine::new(alloc)?,
             reader: LineReader::new(alloc)?,
+            line: Vec::new(alloc),
         })
     }
 
@@ -114,8 +117,8 @@ impl Session {
             return Err(SessionFault::BadLine(number));
         };
         let reply = self.machine.step(disk, command)?;
-        let line = line_of(self.alloc, reply)?;
-        if write_all(sink, &line) {
+        put_line(self.alloc, &mut self.line, reply)?;
+        if write_all(sink, &self.line) {
             Ok(())
         } else {
             Err(SessionFault::WriteFault)
@@ -139,6 +142,7 @@ impl Session {
             → PassSays (limits_said limits) told s n rest (ahead self.new.reader (S.left source.new)) (W.taken sink.old) (W.taken sink.new) self.new.machine.live self.new.machine.views.items self.new.machine.tags result }
         ensures received { (rest : List ℕ) → ahead self.old.reader (S.left source.old) ≡ Some rest → IsErrOf result SessionFault.ReadFault → Broken (limits_said limits) rest (S.left source.new) }
         ensures quiet { IsErrOf result SessionFault.ReadFault → W.taken sink.new ≡ W.taken sink.old }
+        ensures flushed_before_read { IsErrOf result SessionFault.ReadFault → IsTrue (W.flushed sink.new) }
         ensures bounded { (rest : List ℕ) → ahead self.old.reader (S.left source.old) ≡ Some rest → TakenWithin (limits.max_line + 65536) rest (S.left source.new) }
         ensures left { (told : Told) → M.told disk.old ≡ Some told → IsFixed told → M.told disk.new ≡ Some told }
         ensures at_end { result ≡ Ok false → IsAtEnd (ahead self.new.reader (S.left source.new)) }
@@ -179,6 +183,7 @@ impl Session {
         ensures bounded { (rest : List ℕ) → ahead self.old.reader (S.left source.old) ≡ Some rest → TakenWithin 65536 rest (S.left source.new) }
         ensures taken { W.taken sink.new ≡ W.taken sink.old }
         ensures at_end { OnOk result (IsAtEnd (ahead self.new.reader (S.left source.new))) }
+        ensures flushed_before_read { IsErrOf result SessionFault.ReadFault → IsTrue (W.flushed sink.new) }
         ensures read_cause { HasCause (IsErrOf result SessionFault.ReadFault) (S.faults source.old) (S.faults source.new) }
         ensures faults { W.faults sink.old ≤ W.faults sink.new }
         ensures dry { W.dry sink.old ≤ W.dry sink.new }
@@ -212,6 +217,8 @@ impl Session {
             → (lines : Received (limits_said limits) input (S.left source.new)) × (W.taken sink.new ≡ append_known (W.taken sink.old) (replies_received (limits_said limits) told input (S.left source.new) lines)) }
         ensures bounded { (input : List ℕ) → S.left source.old ≡ Some input → TakenWithin (most_bytes (limits_said limits)) input (S.left source.new) }
         ensures read { OnOk result (IsAtEnd (S.left source.new)) }
+        ensures left { (told : Told) → M.told disk.old ≡ Some told → IsFixed told → M.told disk.new ≡ Some told }
+        ensures flushed_before_read { IsErrOf result SessionFault.ReadFault → IsTrue (W.flushed sink.new) }
         ensures read_cause { IsErrOf result SessionFault.ReadFault → Rose (S.faults source.old) (S.faults source.new) }
         ensures faults { W.faults sink.old ≤ W.faults sink.new }
         ensures dry { W.dry sink.old ≤ W.dry sink.new }
@@ -279,6 +286,8 @@ pub fn run_session<S: LineSource, W: ByteSink, M: PathAccessModel>(
         → (lines : Received (limits_said limits) input (S.left source.new)) × (W.taken sink.new ≡ append_known (W.taken sink.old) (replies_received (limits_said limits) told input (S.left source.new) lines)) }
     ensures bounded { (input : List ℕ) → S.left source.old ≡ Some input → TakenWithin (most_bytes (limits_said limits)) input (S.left source.new) }
     ensures read { OnOk result (IsAtEnd (S.left source.new)) }
+    ensures left { (told : Told) → M.told disk.old ≡ Some told → IsFixed told → M.told disk.new ≡ Some told }
+    ensures flushed_before_read { IsErrOf result SessionFault.ReadFault → IsTrue (W.flushed sink.new) }
     ensures flushed { UnlessCutOff result (IsTrue (W.flushed sink.new)) }
     ensures flushed_without_memory { IsErrOf result SessionFault.OutOfMemory → IsTrue (W.flushed sink.new) ⊎ Rose (W.faults sink.old) (W.faults sink.new) }
     ensures read_cause { IsErrOf result SessionFault.ReadFault → Rose (S.faults source.old) (S.faults source.new) }

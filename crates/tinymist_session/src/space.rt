@@ -2,12 +2,12 @@
 ghost use Rattle.std.specs.Prelude.{◌≡◌, ◌+◌, ◌-◌, ◌^◌, ◌<◌, ◌++◌, ◌∷◌, [], List, IfOk, OnOk, OnErr, Some, Err};
 ghost use Rattle.ty_model.specs.Disk.{Told, IsFixed};
 ghost use Rattle.ty_model.specs.LookUp.{look};
-ghost use Rattle.ty_model.specs.Places.{place_of};
+ghost use Rattle.ty_model.specs.Places.{place_of, detached_entry};
 ghost use Rattle.ty_model.specs.Held.{Standing};
 ghost use Rattle.ty_model.specs.Space as model;
 ghost use Rattle.ty_model.specs.Space.{Space};
 ghost use Rattle.ty_model.specs.Standing.{are_clean};
-ghost use Rattle.ty_model.specs.Version.{Version};
+ghost use Rattle.ty_model.specs.Version.{Version, same_id};
 ghost use Rattle.ty_syntax.specs.Lines.{place};
 ghost use Rattle.tinymist_vfs.specs.Commits.{committed};
 ghost use Rattle.tinymist_vfs.specs.Revising.{items_in, AddsItems};
@@ -129,11 +129,22 @@ pub(crate) fn source_of<M: PathAccessModel>(
     ensures answer { (told : Told) → M.told disk.old ≡ Some told → GivesSource (source_at (shown vfs.now).1 told id.now) result }
     ensures left { (told : Told) → M.told disk.old ≡ Some told → IsFixed told → M.told disk.new ≡ Some told }
 {
-    if *id == detached_entry(alloc)? {
+    if is_detached(alloc, id)? {
         return Ok(Source::new(alloc, id.share(alloc)?, String::new(alloc))?);
     }
     let mut cells = OwnCells::new(disk);
     vfs.source(&mut cells, id)
+}
+
+/// Whether an id is the detached entry, which alone has its tag.
+#[tactic(auto, using(crate::proofs::Detached::other_tag))]
+fn is_detached(alloc: Global, id: &FileId) -> Result<bool, OutOfMemory>
+    ensures { IfOk result (λ b. b ≡ same_id id.now detached_entry) }
+{
+    if id.tag() != 1 {
+        return Ok(false);
+    }
+    Ok(*id == detached_entry(alloc)?)
 }
 
 /// The place of an offset.

@@ -22,10 +22,21 @@ pub(crate) fn text_of(line: &[u8]) -> Option<&str>
     }
 }
 
+/// Whether no byte is a control byte but a tab, in one pass without branches.
 fn is_plain(line: &[u8]) -> bool
     ensures { result ≡ list_all grammar.is_plain line.now }
 {
-    line.iter().all(|b| (*b >= 32 && *b != 127) || *b == b'\t')
+    let mut plain = true;
+    for byte in line {
+        plain = plain & is_plain_byte(*byte);
+    }
+    plain
+}
+
+fn is_plain_byte(byte: u8) -> bool
+    ensures { result ≡ grammar.is_plain byte }
+{
+    ((byte >= 32) & (byte != 127)) | (byte == b'\t')
 }
 
 /// A number in decimal without leading zeros.

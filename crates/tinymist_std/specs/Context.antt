@@ -1,10 +1,10 @@
 -- What an error is given by the calls that make one: a kind from a text or from another error, and arguments.
-use Rattle.std.specs.Prelude.{◌≡◌, ℕ, Bool, true, false, List, [], ◌∷◌, Option, None, IfSome, Vec, String, codes}
+use Rattle.std.specs.Prelude.{◌≡◌, ℕ, Bool, true, false, List, [], ◌∷◌, Option, None, IfSome, IsTrue, Vec, String, codes}
 use Rattle.std.specs.Option.{option_map}
 use Rattle.std.specs.Borrow.{Bor}
 use Rattle.std.specs.declared.alloc.Global.{Global}
 use Rattle.std.specs.Bool.{MatchBool, OnFalse}
-use Rattle.tinymist_std.specs.Error.{Site, Cause, untold, message, report, no_memory, Kind, Failure, Arguments, arguments_of, plain, printed_text}
+use Rattle.tinymist_std.specs.Error.{Site, Cause, untold, message, report, no_memory, Kind, Failure, Arguments, arguments_of, plain, printed_text, wrapping}
 
 -- the kind says that memory ran out
 abbrev pub is_want : List Site → Cause → Bool
@@ -33,9 +33,21 @@ IsMessageCause text no_memory = ⊥
 abbrev pub IsMessageOf : Option (List ℕ) → Kind → Type 0
 IsMessageOf text k = UnlessMemory k ((k.within ≡ []) × IsMessageCause text k.cause)
 
+-- where memory ran out before, the kind says that and nothing more
+abbrev pub KeepsWant : Type 0 → Kind → Type 0
+KeepsWant lacking k = lacking → k ≡ plain no_memory
+
+-- the kind that an error becomes by its text: a message, but out of memory stays that
+abbrev pub IsToldAs : Type 0 → Option (List ℕ) → Kind → Type 0
+IsToldAs lacking text k = IsMessageOf text k × KeepsWant lacking k
+
 -- the kind that an error gives to another: a message of its printed text, but out of memory stays that
 abbrev pub IsKindFrom : Failure → Kind → Type 0
-IsKindFrom f k = IsMessageOf (printed_text f) k × (lacks_memory f.kind ≡ true → k ≡ plain no_memory)
+IsKindFrom f k = IsToldAs (IsTrue (lacks_memory f.kind)) (printed_text f) k
+
+-- the kind within which an error stands, but out of memory stays that
+abbrev pub IsWrapped : Failure → Kind → Type 0
+IsWrapped f k = UnlessMemory k (k ≡ wrapping f) × KeepsWant (IsTrue (lacks_memory f.kind)) k
 
 -- the arguments are as given, but none where memory ran out
 abbrev pub HasArguments : (Option Arguments → Type 0) → Failure → Type 0

@@ -76,3 +76,8 @@ separator_arguments env = (codes "env", env) ∷ (codes "error", codes "path seg
 -- a path is that of a name of one component in a folder
 abbrev pub StandsIn : List ℕ → List ℕ → Type 0
 StandsIn folder path = (name : List ℕ) × IsTrue (is_name name) × (path ≡ join folder name)
+
+-- a folder as the system reads it: an empty path is the folder in which the program runs
+abbrev pub readable_folder : List ℕ → List ℕ
+readable_folder [] = codes "."
+readable_folder (b ∷ path) = b ∷ path

@@ -1,14 +1,14 @@
 //! Errors with the place where they were met, made of results, options and other errors.
 ghost use Rattle.std.specs.Prelude.{◌≡◌, Option, Some, None, Ok, IsErrAnd, MatchResult};
 ghost use Rattle.std.specs.Option.{option_map};
-ghost use Rattle.tinymist_std.specs.Error.{Kind, plain, untold, arguments_of, wrapping};
+ghost use Rattle.tinymist_std.specs.Error.{Kind, plain, untold, arguments_of};
 ghost use Rattle.tinymist_std.specs.ErrKind.{kind_of};
-ghost use Rattle.tinymist_std.specs.Context.{IsGivenBy, IsMessageOf, IsMet, UnlessMemory, lacks_memory};
+ghost use Rattle.tinymist_std.specs.Context.{IsGivenBy, IsMet, IsToldAs, IsWrapped, lacks_memory};
 
-use crate::err_kind_ext::{ErrKindExt, message_kind};
+use crate::err_kind_ext::ErrKindExt;
 use crate::error::{Args, ErrKind, Error, Result};
+use crate::untyped_error::{UntypedError, untyped_kind};
 use std::alloc::Global;
-use std::fmt::Display;
 
 /// Says where a failure was met. The error has the kind that the failure becomes (`ErrKindExt`), and
 /// in place of a `None` the kind that says nothing.
@@ -86,7 +86,7 @@ impl<T: Drop> WithContext<T> for Option<T> {
     }
 }
 
-/// Says where an error was met, and keeps what it prints as a message.
+/// Says where an error was met, and keeps what it prints as a message. Out of memory stays that.
 pub trait WithContextUntyped<T>: Sized {
     // `holds self x`: self is no failure, and x is its value.
     ghost holds: { Self → T → Type 0 };
@@ -94,12 +94,13 @@ pub trait WithContextUntyped<T>: Sized {
     // `gives_kind self k`: self is a failure, and k is a kind that its error may get.
     ghost gives_kind: { Self → Kind → Type 0 };
 
-    /// The value, or an error of that place whose kind is a message of the printed error.
+    /// The value, or an error of that place whose kind is a message of the printed error, or
+    /// `OutOfMemory` where the error says that.
     fn context_ut(self, alloc: Global, loc: &'static str) -> Result<T, Error>
         ensures { MatchResult result (holds self) (IsMet loc.now (gives_kind self) (λ a. a ≡ None)) };
 
     /// The same with the arguments that the closure gives. It is called only for an error that
-    /// finds memory for its text.
+    /// has another kind than `OutOfMemory`.
     fn with_context_ut<A: Into<Option<Args>>, G: FnOnce() -> A + Drop>(
         self,
         alloc: Global,
@@ -111,15 +112,15 @@ pub trait WithContextUntyped<T>: Sized {
             (IsGivenBy (G.post f) A.converts)) };
 }
 
-impl<T: Drop, E: Display + Drop> WithContextUntyped<T> for Result<T, E> {
+impl<T: Drop, E: UntypedError> WithContextUntyped<T> for Result<T, E> {
     ghost holds = { λ s x. s ≡ Ok x };
 
-    ghost gives_kind = { λ s k. IsErrAnd s (λ e. IsMessageOf (E.output e) k) };
+    ghost gives_kind = { λ s k. IsErrAnd s (λ e. IsToldAs (E.LacksMemory e) (E.output e) k) };
 
     fn context_ut(self, alloc: Global, loc: &'static str) -> Result<T, Error> {
         match self {
             Ok(value) => Ok(value),
-            Err(error) => Err(Error::new(loc, message_kind(alloc, &error), None)),
+            Err(error) => Err(Error::new(loc, untyped_kind(alloc, &error), None)),
         }
     }
 
@@ -131,7 +132,7 @@ impl<T: Drop, E: Display + Drop> WithContextUntyped<T> for Result<T, E> {
     ) -> Result<T, Error> {
         match self {
             Ok(value) => Ok(value),
-            Err(error) => Err(met_with(loc, message_kind(alloc, &error), f)),
+            Err(error) => Err(met_with(loc, untyped_kind(alloc, &error), f)),
         }
     }
 }
@@ -182,11 +183,12 @@ fn met(loc: &'static str, kind: ErrKind, args: Args) -> Error
     Error::new(loc, kind, Some(args))
 }
 
-/// An error of that place whose kind is a message of the printed value.
-pub fn map_string_err<E: Display + Drop>(alloc: Global, loc: &'static str, e: E) -> Error
-    ensures { IsMet loc.now (IsMessageOf (E.output e)) (λ a. a ≡ None) result }
+/// An error of that place whose kind is a message of the printed error, or `OutOfMemory` where the
+/// error says that.
+pub fn map_string_err<E: UntypedError>(alloc: Global, loc: &'static str, e: E) -> Error
+    ensures { IsMet loc.now (IsToldAs (E.LacksMemory e) (E.output e)) (λ a. a ≡ None) result }
 {
-    Error::new(loc, message_kind(alloc, &e), None)
+    Error::new(loc, untyped_kind(alloc, &e), None)
 }
 
 /// An error of that place and of the kind that the value gives.
@@ -203,24 +205,24 @@ pub fn map_into_err<S: ErrKindExt, E: Into<S>>(alloc: Global, loc: &'static str,
     map_err(alloc, loc, e.into())
 }
 
-/// An error of that place within which the other stands.
+/// An error of that place within which the other stands, but out of memory stays that.
 pub fn wrap_err(alloc: Global, loc: &'static str, e: Error) -> Error
-    ensures { IsMet loc.now (λ k. UnlessMemory k (k ≡ wrapping e)) (λ a. a ≡ None) result }
+    ensures { IsMet loc.now (IsWrapped e) (λ a. a ≡ None) result }
 {
     Error::new(loc, wrapping_kind(alloc, e), None)
 }
 
 /// As [`map_string_err`], with arguments.
-pub fn map_string_err_with_args<E: Display + Drop>(
+pub fn map_string_err_with_args<E: UntypedError>(
     alloc: Global,
     loc: &'static str,
     e: E,
     args: Args,
 ) -> Error
-    ensures { IsMet loc.now (IsMessageOf (E.output e))
+    ensures { IsMet loc.now (IsToldAs (E.LacksMemory e) (E.output e))
         (λ a. a ≡ Some (arguments_of args.entry.items)) result }
 {
-    met(loc, message_kind(alloc, &e), args)
+    met(loc, untyped_kind(alloc, &e), args)
 }
 
 /// As [`map_err`], with arguments.
@@ -245,16 +247,19 @@ pub fn map_into_err_with_args<S: ErrKindExt, E: Into<S>>(
 
 /// As [`wrap_err`], with arguments.
 pub fn wrap_err_with_args(alloc: Global, loc: &'static str, e: Error, args: Args) -> Error
-    ensures { IsMet loc.now (λ k. UnlessMemory k (k ≡ wrapping e))
+    ensures { IsMet loc.now (IsWrapped e)
         (λ a. a ≡ Some (arguments_of args.entry.items)) result }
 {
     met(loc, wrapping_kind(alloc, e), args)
 }
 
-/// The kind within which an error stands.
+/// The kind within which an error stands; `OutOfMemory` where that is its own kind.
 fn wrapping_kind(alloc: Global, e: Error) -> ErrKind
-    ensures { UnlessMemory (kind_of result) (kind_of result ≡ wrapping e) }
+    ensures { IsWrapped e (kind_of result) }
 {
+    if e.kind().is_out_of_memory() {
+        return ErrKind::OutOfMemory;
+    }
     match Box::new(alloc, e) {
         Ok(inner) => ErrKind::Inner(inner),
         Err(_) => ErrKind::OutOfMemory,

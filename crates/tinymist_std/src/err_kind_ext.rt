@@ -5,6 +5,7 @@ ghost use Rattle.tinymist_std.specs.ErrKind.{kind_of};
 ghost use Rattle.tinymist_std.specs.Context.{IsKindFrom, IsMessageOf};
 
 use crate::error::{ErrKind, Error};
+use crate::untyped_error::untyped_kind;
 use std::alloc::{AllocError, Global};
 use std::fmt::Display;
 use ty_path::OutOfMemory;
@@ -46,10 +47,7 @@ impl ErrKindExt for Error {
     ghost gives_kind = { IsKindFrom };
 
     fn to_error_kind(self, alloc: Global) -> ErrKind {
-        if self.kind().is_out_of_memory() {
-            return ErrKind::OutOfMemory;
-        }
-        message_kind(alloc, &self)
+        untyped_kind(alloc, &self)
     }
 }
 

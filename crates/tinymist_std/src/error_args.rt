@@ -3,11 +3,12 @@ ghost use Rattle.std.specs.Prelude.{◌≡◌, [], Some, IfOk, IfSome, is_some, 
 ghost use Rattle.std.specs.Bool.{MatchBool};
 ghost use Rattle.tinymist_std.specs.Error.{arguments_of, no_memory, plain, untold};
 ghost use Rattle.tinymist_std.specs.ErrorArgs.{AddsArgument, IsMetWith};
-ghost use Rattle.tinymist_std.specs.Context.{IsMessageOf};
+ghost use Rattle.tinymist_std.specs.Context.{IsToldAs};
 
 use crate::context::{map_err_with_args, map_string_err_with_args};
 use crate::err_kind_ext::ErrKindExt;
 use crate::error::{Args, ErrKind, Error};
+use crate::untyped_error::UntypedError;
 use std::alloc::{AllocError, Global};
 use std::fmt::Display;
 use std::marker::Model;
@@ -73,13 +74,13 @@ impl ErrorArgs {
     }
 
     /// An error as [`map_string_err_with_args`] makes it with these arguments.
-    pub fn map_string_err<E: Display + Drop>(
+    pub fn map_string_err<E: UntypedError>(
         self,
         alloc: Global,
         loc: &'static str,
         error: E,
     ) -> Error
-        ensures { IsMetWith self loc.now (IsMessageOf (E.output error)) result }
+        ensures { IsMetWith self loc.now (IsToldAs (E.LacksMemory error) (E.output error)) result }
     {
         match self.args {
             Some(args) => map_string_err_with_args(alloc, loc, error, args),

@@ -1,12 +1,12 @@
 //! Files that are open and locked.
-ghost use Rattle.std.specs.Prelude.{◌≡◌, ℕ, List, IfErr, codes, string_bytes};
+ghost use Rattle.std.specs.Prelude.{◌≡◌, ◌⊎◌, ℕ, List, None, Some, IfErr, IfSome, codes, string_bytes};
 ghost use Rattle.std.specs.Option.{option_copied};
-ghost use Rattle.std.specs.Path.{path_parent};
+ghost use Rattle.std.specs.Path.{path_file_name, path_parent};
 ghost use Rattle.tinymist_std.specs.FileLock.{lock_file, lock_path};
 ghost use Rattle.tinymist_std.specs.Paths.{IsEntryFault};
 
 use crate::error::Result;
-use crate::paths::entry_fault;
+use crate::paths::{entry_fault, folder_of, readable};
 use std::alloc::Global;
 use std::fs::{File, FileType};
 use std::io::ErrorKind;
@@ -47,10 +47,7 @@ impl FileLock {
     pub fn parent(&self) -> Option<&str>
         ensures { option_copied result ≡ path_parent (lock_path self.now) }
     {
-        match Path::new(self.path.as_str()).parent() {
-            Some(folder) => Some(folder.as_str()),
-            None => None,
-        }
+        folder_of(self.path.as_str())
     }
 
     /// Removes all that the file's folder holds beside it. Where the path has no parent or no name,
@@ -77,12 +74,11 @@ impl Drop for FileLock {
 fn remove_beside<R: Files>(rt: &R, alloc: Global, call: &'static str, path: &str) -> Result<()>
     ensures { IfErr result (λ error. (entry : List ℕ) × IsEntryFault call.now path.now entry error) }
 {
-    let place = Path::new(path);
-    let (Some(folder), Some(name)) = (place.parent(), place.file_name()) else {
+    let Some((folder, name)) = folder_and_name(path) else {
         let refused = io::Error::from(ErrorKind::InvalidInput);
         return Err(entry_fault(alloc, call, path, path, refused));
     };
-    let folder = readable(folder.as_str());
+    let folder = readable(folder);
     let entries = match fs::read_dir(&(rt, alloc), folder) {
         Ok(entries) => entries,
         Err(cause) => return Err(entry_fault(alloc, call, path, folder, cause)),
@@ -103,9 +99,14 @@ fn remove_beside<R: Files>(rt: &R, alloc: Global, call: &'static str, path: &str
     Ok(())
 }
 
-/// The folder as the system reads it: an empty path is the folder in which the program runs.
-fn readable(folder: &str) -> &str {
-    if folder.is_empty() { "." } else { folder }
+/// The folder in which a path stands, and its name there, where it has both.
+fn folder_and_name(path: &str) -> Option<(&str, &str)>
+    ensures some { IfSome result (λ parts. (path_parent path.now ≡ Some parts.0.now)
+        × (path_file_name path.now ≡ Some parts.1.now)) }
+    ensures none { result ≡ None
+        → (path_parent path.now ≡ None) ⊎ (path_file_name path.now ≡ None) }
+{
+    Some((folder_of(path)?, Path::new(path).file_name()?))
 }
 
 /// Removes a file, or a folder with all that it holds.

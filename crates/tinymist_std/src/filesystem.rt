@@ -1,5 +1,6 @@
 //! A folder whose files are opened with a lock.
-ghost use Rattle.std.specs.Prelude.{◌≡◌, Ok, IfOk, IfErr, IfSome, MatchResult, OnOk, OnErr, codes, string_bytes};
+ghost use Rattle.std.specs.Prelude.{◌≡◌, ◌≢◌, ◌↔◌, true, Ok, IfOk, IfErr, IfSome, IsTrue, MatchResult, OnOk, OnErr, codes, string_bytes};
+ghost use Rattle.std.specs.Fs.{asks_write, new_options, with_create, with_read, with_write};
 ghost use Rattle.std.specs.IoError.{error_kind};
 ghost use Rattle.tinymist_std.specs.Error.{no_memory, plain};
 ghost use Rattle.tinymist_std.specs.FileLock.{IsTaken, lock_path};
@@ -8,13 +9,12 @@ ghost use Rattle.ty_model.specs.Paths as plain;
 
 use crate::error::{ErrKind, Error, Result};
 use crate::file_lock::FileLock;
-use crate::paths::{named, told, within_memory};
+use crate::paths::{folder_of, named, told, within_memory};
 use std::alloc::Global;
 use std::fmt::Display;
 use std::fs::{File, OpenOptions, TryLockError};
 use std::io::ErrorKind;
 use std::marker::Model;
-use std::path::Path;
 use std::rt::Files;
 use std::{fmt, fs, io};
 use ty_path::{OutOfMemory, join};
@@ -227,27 +227,36 @@ enum Access {
 }
 
 impl Access {
-    fn creates(self) -> bool {
+    /// Whether a missing file is made.
+    fn creates(self) -> bool
+        ensures { IsTrue result ↔ (self ≢ Access.Read) }
+    {
         !matches!(self, Access::Read)
     }
 
-    fn writes(self) -> bool {
+    /// Whether the file is opened to be written too, and its lock is shared with nobody.
+    fn writes(self) -> bool
+        ensures { IsTrue result ↔ (self ≡ Access.Write) }
+    {
         matches!(self, Access::Write)
     }
 
     /// Waits for the lock.
     fn lock(self, file: &File) -> std::result::Result<(), TryLockError> {
-        let answer = match self {
-            Access::Write => file.lock(),
-            Access::Read | Access::ReadOrCreate => file.lock_shared(),
+        let answer = if self.writes() {
+            file.lock()
+        } else {
+            file.lock_shared()
         };
         answer.map_err(TryLockError::Error)
     }
 
+    /// The lock, unless another holds it.
     fn try_lock(self, file: &File) -> std::result::Result<(), TryLockError> {
-        match self {
-            Access::Write => file.try_lock(),
-            Access::Read | Access::ReadOrCreate => file.try_lock_shared(),
+        if self.writes() {
+            file.try_lock()
+        } else {
+            file.try_lock_shared()
         }
     }
 }
@@ -307,34 +316,47 @@ fn lock_fault(alloc: Global, call: &'static str, path: &str, cause: io::Error) -
 /// The file. Where it is missing and may be made, it is, after its folder; to be read alone it is then
 /// opened again.
 fn open<R: Files<File = File>>(rt: &R, path: &str, access: Access) -> io::Result<File> {
-    match open_present(rt, path, access) {
-        Err(cause) if access.creates() && cause.kind() == ErrorKind::NotFound => {
+    match present_options(access).open(rt, path) {
+        Err(cause) if must_create(access, &cause) => {
             create(rt, path)?;
-            open_present(rt, path, access)
+            present_options(access).open(rt, path)
         }
         opened => opened,
     }
 }
 
-/// The file that is there.
-fn open_present<R: Files<File = File>>(rt: &R, path: &str, access: Access) -> io::Result<File> {
+/// Whether a file that wasn't opened for this cause is to be made: it is missing, and may be made.
+fn must_create(access: Access, cause: &io::Error) -> bool
+    ensures { IsTrue result
+        ↔ ((access ≢ Access.Read) × (error_kind cause.now ≡ ErrorKind.NotFound)) }
+{
+    access.creates() && cause.kind() == ErrorKind::NotFound
+}
+
+/// How a file that is there is opened: to be read, and to be written too where that is asked for.
+fn present_options(access: Access) -> OpenOptions
+    ensures all { result ≡ with_write (with_read new_options true) (asks_write result) }
+    ensures write { IsTrue (asks_write result) ↔ (access ≡ Access.Write) }
+{
     let mut options = OpenOptions::new();
     options.read(true).write(access.writes());
-    options.open(rt, path)
+    options
 }
 
 /// Makes the file, after its folder; what is there by then stays.
 fn create<R: Files<File = File>>(rt: &R, path: &str) -> io::Result<()> {
-    create_folder_of(rt, path)?;
-    let mut options = OpenOptions::new();
-    options.write(true).create(true);
-    let _made = options.open(rt, path)?;
+    if let Some(folder) = folder_of(path) {
+        fs::create_dir_all(rt, folder)?;
+    }
+    let _made = creating_options().open(rt, path)?;
     Ok(())
 }
 
-fn create_folder_of<R: Files>(rt: &R, path: &str) -> io::Result<()> {
-    match Path::new(path).parent() {
-        Some(folder) => fs::create_dir_all(rt, folder),
-        None => Ok(()),
-    }
+/// How a file is made where it is missing, and one that is there is left as it is.
+fn creating_options() -> OpenOptions
+    ensures { result ≡ with_create (with_write new_options true) true }
+{
+    let mut options = OpenOptions::new();
+    options.write(true).create(true);
+    options
 }

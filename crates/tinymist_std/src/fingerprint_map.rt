@@ -1,5 +1,5 @@
 //! Maps from fingerprints behind a row of locks.
-ghost use Rattle.std.specs.Prelude.{◌≡◌, ◌%◌, ◌^◌, ◌<◌, ◌++◌, Some, length, min, slice_get, IfOk, OnOk, IsPermutation, vec_len};
+ghost use Rattle.std.specs.Prelude.{◌≡◌, ◌%◌, ◌^◌, ◌<◌, ◌++◌, Some, length, min, slice_get, IfOk, OnOk, IsPermutation};
 ghost use Rattle.std.specs.List.{flat_map};
 ghost use Rattle.std.specs.Borrow.{Array, Lends, sem};
 ghost use Rattle.std.specs.Int.{IsNextPowerOfTwo};
@@ -7,7 +7,7 @@ ghost use Rattle.std.specs.List.Sorted.{IsSortedByKey};
 ghost use Rattle.tinymist_std.specs.Fingerprint.{halves_cmp};
 
 use crate::fingerprint::Fingerprint;
-use crate::parts::{holds, part_of};
+use crate::parts::{each_unlocked, holds, part_of};
 use std::alloc::{AllocError, Global};
 use std::collections::HashMap;
 use std::hash::{BuildHasher, BuildHasherDefault, FoldHasher};
@@ -78,22 +78,9 @@ impl<V: Drop> FingerprintMap<V> {
             IsSortedByKey (λ item. item.0) halves_cmp items.items) }
     {
         let alloc = *self.shards.allocator();
-        Ok(items_of(alloc, unlocked(alloc, self.shards)?)?)
+        let parts = each_unlocked(alloc, self.shards, |shard| shard.into_inner())?;
+        Ok(items_of(alloc, parts)?)
     }
-}
-
-/// What the parts hold, without their locks.
-fn unlocked<V: Drop>(
-    alloc: Global,
-    shards: Vec<FingerprintMapShard<V>>,
-) -> Result<Vec<HashMap<Fingerprint, V>>, AllocError>
-    ensures { IfOk result (λ parts. vec_len parts ≡ length shards.items) }
-{
-    let mut parts = Vec::new(alloc);
-    for shard in shards {
-        parts.push(shard.into_inner())?;
-    }
-    Ok(parts)
 }
 
 /// All entries of the parts, in the order of their fingerprints.

@@ -25,6 +25,7 @@ pub mod paths;
 mod query;
 mod read_all;
 mod take_as;
+mod untyped_error;
 
 pub use context::{
     WithContext, WithContextUntyped, map_err, map_err_with_args, map_into_err,
@@ -52,3 +53,4 @@ pub use path_ancestors::PathAncestors;
 pub use query::{Note, QueryFault, QueryRef};
 pub use read_all::ReadAllOnce;
 pub use take_as::TakeAs;
+pub use untyped_error::{Printed, UntypedError};

@@ -1,7 +1,9 @@
 //! Rows of parts, of which a number picks one, and what is done to a part once its lock is taken.
 ghost use Rattle.std.specs.Prelude.{◌≡◌, ◌%◌, ◌<◌, Some, None, IfOk, OnOk, OnErr, is_some, length, slice_get};
 ghost use Rattle.std.specs.HashMap.{IsUnchanged, Updates, get};
+ghost use Rattle.std.specs.List.{AllZip};
 
+use std::alloc::{AllocError, Global};
 use std::collections::HashMap;
 use std::hash::Hash;
 use ty_path::OutOfMemory;
@@ -14,6 +16,23 @@ pub(crate) fn part_of<T>(parts: &[T], number: usize) -> &T
     ensures { slice_get parts.now (number % length parts.now) ≡ Some result.now }
 {
     &parts[number % parts.len()]
+}
+
+/// What `unlock` gives of each part, in the order of the parts.
+pub(crate) fn each_unlocked<S: Drop, M: Drop, F: Fn(S) -> M + Drop>(
+    alloc: Global,
+    parts: Vec<S>,
+    unlock: F,
+) -> Result<Vec<M>, AllocError>
+    requires { F.IsAlwaysCallable unlock }
+    ensures { IfOk result (λ maps.
+        AllZip (λ part given. F.post unlock part given) parts.items maps.items) }
+{
+    let mut unlocked = Vec::new(alloc);
+    for part in parts {
+        unlocked.push(unlock(part))?;
+    }
+    Ok(unlocked)
 }
 
 /// Puts the value under the key, and answers the one that stood there; where memory runs out, the

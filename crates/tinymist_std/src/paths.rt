@@ -3,12 +3,13 @@
 //! What a file holds is not proved: these are thin edges over the library's files.
 ghost use Rattle.std.specs.Prelude.{◌≡◌, false, Some, Ok, IsOkAnd, IfOk, IfErr, IsTrue, MatchResult, codes, string_bytes};
 ghost use Rattle.std.specs.Option.{option_copied};
+ghost use Rattle.std.specs.Path.{path_parent};
 ghost use Rattle.std.specs.Str.{IsUtf8};
 ghost use Rattle.tinymist_std.specs.Context.{IsRefusal, IsWantOfMemory, reason_alone};
 ghost use Rattle.tinymist_std.specs.PathAncestors.{path_next, path_stop};
 ghost use Rattle.std.specs.IoError.{error_kind};
 ghost use Rattle.tinymist_std.specs.Error.{no_memory, plain};
-ghost use Rattle.tinymist_std.specs.Paths.{IsCopyFault, IsEntryFault, IsFileFault, TellsCause, any_has_colon, joined_paths, separator_arguments};
+ghost use Rattle.tinymist_std.specs.Paths.{IsCopyFault, IsEntryFault, IsFileFault, TellsCause, any_has_colon, joined_paths, readable_folder, separator_arguments};
 
 use crate::error::{ErrKind, Error, Result};
 use crate::error_args::ErrorArgs;
@@ -17,6 +18,7 @@ use std::alloc::Global;
 use std::fmt::Display;
 use std::io;
 use std::io::ErrorKind;
+use std::path::Path;
 
 mod folders;
 mod reading;
@@ -84,6 +86,23 @@ pub fn ancestors<'p>(path: &'p str, stop: Option<&'p str>) -> PathAncestors<'p>
     ensures stop { path_stop result ≡ option_copied stop.entry }
 {
     PathAncestors::new(path, stop)
+}
+
+/// The path of the folder in which a path stands; `None` where the path has no parent.
+pub(crate) fn folder_of(path: &str) -> Option<&str>
+    ensures { option_copied result ≡ path_parent path.now }
+{
+    match Path::new(path).parent() {
+        Some(folder) => Some(folder.as_str()),
+        None => None,
+    }
+}
+
+/// The folder as the system reads it: an empty path is the folder in which the program runs.
+pub(crate) fn readable(folder: &str) -> &str
+    ensures { result.now ≡ readable_folder folder.now }
+{
+    if folder.is_empty() { "." } else { folder }
 }
 
 /// The result, whose error says that memory ran out at the call.

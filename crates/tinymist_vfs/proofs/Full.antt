@@ -7,7 +7,7 @@ use Rattle.ty_model.specs.Standing.{Held}
 use Rattle.ty_model.specs.Touched.{commit_held}
 use Rattle.ty_model.specs.Held.{Kept}
 use Rattle.tinymist_vfs.specs.Commits.{committed, is_full}
-use Rattle.tinymist_vfs.specs.declared.revise.ReviseFault.{ReviseFault}
+use Rattle.tinymist_vfs.specs.declared.batch.revise.ReviseFault.{ReviseFault}
 
 raised_to : (h : Held) (batch : List change.Item) → rises h.space h.revision h.layers batch ≡ true → (commit_held h batch).revision ≡ h.revision + 1
 raised_to h batch is = rw is

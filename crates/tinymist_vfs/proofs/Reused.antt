@@ -1,5 +1,5 @@
 -- An id that is clean has the same answer in all versions since.
-use Rattle.std.proofs.Common.{◌≡◌, ℕ, Bool, true, false, cond, ◌&&◌, List, [], ◌∷◌, map, refl, sym, ap, ◌∙◌, arith, Result, Ok, Err}
+use Rattle.std.proofs.Common.{◌≡◌, ◌≤◌, ℕ, Bool, true, false, cond, ◌&&◌, List, [], ◌∷◌, map, refl, sym, ap, ◌∙◌, arith, Result, Ok, Err}
 use Rattle.std.specs.Prelude.{nat_le, All, Contains, IfOk, IsTrue}
 use Rattle.std.specs.List.{list_all}
 use Rattle.std.specs.Option.{option_or}
@@ -16,6 +16,7 @@ use Rattle.ty_model.proofs.Tests.{same_answer-Decides, same_option-Decides, same
 use Rattle.ty_syntax.specs.declared.error.FileFault.{FileFault}
 use Rattle.tinymist_vfs.specs.Reading.{source_of}
 use Rattle.tinymist_vfs.specs.Reuse.{SameAnswers}
+use Rattle.ty_model.proofs.Clean.{newest_clean}
 use Rattle.tinymist_vfs.proofs.Stood.{clean_stood}
 
 -- ---- two versions
@@ -92,3 +93,7 @@ pub reused : {R : Type 0} (known : R → Resolver) (k : Kept R) (past : List Ver
     → IfOk result (λ b. b ≡ list_all (clean_by k.held.changes (known k.resolver) r) ids) → IfOk result (λ b. IsTrue b → SameAnswers (version_of known k ∷ past) r disk ids)
 reused known k past s r ids disk (Ok b) h = λ is. same_answers (version_of known k ∷ past) r disk ids s.history.agreed (sym (clean_stood known k past s r ids (Ok b) h) ∙ is)
 reused known k past s r ids disk (Err e) h = h
+
+-- since the newest revision every id is clean
+pub newest_reused : {R : Type 0} (known : R → Resolver) (k : Kept R) (past : List Version) → Standing known k past → (r : ℕ) (ids : List Id) (disk : Told) → k.held.revision ≤ r → SameAnswers (version_of known k ∷ past) r disk ids
+newest_reused known k past s r ids disk le = same_answers (version_of known k ∷ past) r disk ids s.history.agreed (newest_clean (version_of known k) past r s.history.rising le ids)

@@ -14,7 +14,7 @@ use Rattle.ty_model.proofs.Folds.{dropped-push, removed-push, inserted-push, app
 use Rattle.ty_model.proofs.Marks.{join_marked}
 use Rattle.tinymist_vfs.specs.Maps.{Path}
 use Rattle.tinymist_vfs.specs.Items.{file_of, item_of, items_of}
-use Rattle.tinymist_vfs.specs.declared.item.Item.{Item}
+use Rattle.tinymist_vfs.specs.declared.batch.item.Item.{Item}
 
 abbrev Texts : Type 0 → Type 0
 Texts X = finmap.FinMap text_cmp X

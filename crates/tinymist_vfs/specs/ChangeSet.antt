@@ -5,10 +5,10 @@ use Rattle.ty_model.specs.Values.{Answer}
 use Rattle.ty_path.specs.Shared.{path_text}
 use Rattle.tinymist_vfs.specs.Maps.{Path}
 use Rattle.tinymist_vfs.specs.Items.{file_of}
-use Rattle.tinymist_vfs.specs.declared.item.FileChangeSet.{FileChangeSet}
-use Rattle.tinymist_vfs.specs.declared.event.UpstreamUpdateEvent.{UpstreamUpdateEvent}
-use Rattle.tinymist_vfs.specs.declared.event.FilesystemEvent.{FilesystemEvent}
-use Rattle.tinymist_vfs.specs.declared.event.FilesystemEvent.TheVariants.{Update, UpstreamUpdate}
+use Rattle.tinymist_vfs.specs.declared.batch.item.FileChangeSet.{FileChangeSet}
+use Rattle.tinymist_vfs.specs.declared.watch.event.UpstreamUpdateEvent.{UpstreamUpdateEvent}
+use Rattle.tinymist_vfs.specs.declared.watch.event.FilesystemEvent.{FilesystemEvent}
+use Rattle.tinymist_vfs.specs.declared.watch.event.FilesystemEvent.TheVariants.{Update, UpstreamUpdate}
 
 -- the paths that are no longer told
 abbrev pub removed_paths : FileChangeSet → List (List ℕ)

@@ -5,8 +5,8 @@ use Rattle.ty_model.specs.Paths.{clean}
 use Rattle.ty_model.specs.Batch as change
 use Rattle.ty_path.specs.Shared.{path_text}
 use Rattle.tinymist_vfs.specs.Maps.{Path}
-use Rattle.tinymist_vfs.specs.declared.item.Item.{Item}
-use Rattle.tinymist_vfs.specs.declared.item.Item.TheVariants.{MapPath, UnmapPath, MapId, UnmapId, Clear, ChangeSet, ChangeView}
+use Rattle.tinymist_vfs.specs.declared.batch.item.Item.{Item}
+use Rattle.tinymist_vfs.specs.declared.batch.item.Item.TheVariants.{MapPath, UnmapPath, MapId, UnmapId, Clear, ChangeSet, ChangeView}
 
 -- a file as its path and what it has
 abbrev pub file_of : Path × Answer → List ℕ × Answer
@@ -22,8 +22,8 @@ clean_file f = (clean_text f.0, f.1)
 
 -- an item as plain data
 abbrev pub item_of : Item → change.Item
-item_of (MapPath path answer) = change.MapPath (path_text path) answer
-item_of (UnmapPath path) = change.UnmapPath (path_text path)
+item_of (MapPath path answer) = change.MapPath path answer
+item_of (UnmapPath path) = change.UnmapPath path
 item_of (MapId id answer) = change.MapId id answer
 item_of (UnmapId id) = change.UnmapId id
 item_of Clear = change.Clear
@@ -34,6 +34,16 @@ item_of ChangeView = change.ChangeView
 abbrev pub items_of : List Item → List change.Item
 items_of items = map item_of items
 
+-- an item as a batch takes it: the paths of a change set are cleaned
+abbrev pub clean_item : Item → change.Item
+clean_item (MapPath path answer) = change.MapPath path answer
+clean_item (UnmapPath path) = change.UnmapPath path
+clean_item (MapId id answer) = change.MapId id answer
+clean_item (UnmapId id) = change.UnmapId id
+clean_item Clear = change.Clear
+clean_item (ChangeSet set) = change.ChangeSet (map clean_text set.removes.items) (map clean_file set.inserts.items)
+clean_item ChangeView = change.ChangeView
+
 -- what a batch gathers: its items, and after them the change of view where there was one
-abbrev pub gathered : List Item → Bool → List change.Item
-gathered items view = items_of items ++ (if view then change.ChangeView ∷ [] else [])
+abbrev pub gathered : List change.Item → Bool → List change.Item
+gathered items view = items ++ (if view then change.ChangeView ∷ [] else [])

@@ -1,4 +1,5 @@
 pub mod Maps
+pub mod PathMarks
 pub mod Items
 pub mod Commits
 pub mod RootResolver

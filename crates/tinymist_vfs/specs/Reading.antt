@@ -9,8 +9,8 @@ use Rattle.ty_syntax.specs.declared.error.FileFault.{FileFault}
 use Rattle.ty_syntax.specs.declared.error.FileFault.TheVariants.{File, OutOfMemory}
 use Rattle.ty_model.specs.Values.{Id, Answer, Content, Refused, InvalidUtf8}
 use Rattle.ty_cells.specs.Snapshot.{AnswersAs}
-use Rattle.tinymist_vfs.specs.declared.reading.Decision.{Decision}
-use Rattle.tinymist_vfs.specs.declared.reading.Decision.TheVariants.{Says, Refuses, Asks}
+use Rattle.tinymist_vfs.specs.declared.vfs.read.Decision.{Decision}
+use Rattle.tinymist_vfs.specs.declared.vfs.read.Decision.TheVariants.{Says, Refuses, Asks}
 
 -- what a version decides, as plain data
 abbrev pub decision_of : Decision → plain.Decision

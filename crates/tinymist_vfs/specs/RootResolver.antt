@@ -13,8 +13,8 @@ use Rattle.ty_path.specs.Shared.{path_text}
 use Rattle.ty_syntax.specs.Error.{refusal_of}
 use Rattle.ty_syntax.specs.declared.error.FileFault.{FileFault}
 use Rattle.ty_syntax.specs.declared.error.FileFault.TheVariants.{File, OutOfMemory}
-use Rattle.tinymist_vfs.specs.declared.resolver.PathResolution.{PathResolution}
-use Rattle.tinymist_vfs.specs.declared.resolver.PathResolution.TheVariants as resolution
+use Rattle.tinymist_vfs.specs.declared.ids.resolver.PathResolution.{PathResolution}
+use Rattle.tinymist_vfs.specs.declared.ids.resolver.PathResolution.TheVariants as resolution
 
 -- this is the root of a package, unless memory is wanting
 abbrev pub SaysRoot : Result (List ℕ) Refusal → Result (Arc (String Global) Global) FileFault → Type 0

@@ -11,8 +11,8 @@ use Rattle.ty_syntax.specs.Error.{refusal_of}
 use Rattle.ty_syntax.specs.Spec.{spec_text}
 use Rattle.ty_syntax.specs.declared.error.FileFault.{FileFault}
 use Rattle.ty_syntax.specs.declared.error.FileFault.TheVariants.{File, OutOfMemory}
-use Rattle.tinymist_vfs.specs.declared.workspace.WorkspaceResolution.{WorkspaceResolution}
-use Rattle.tinymist_vfs.specs.declared.workspace.WorkspaceResolution.TheVariants.{Workspace, UntitledRooted, Rootless, Package}
+use Rattle.tinymist_vfs.specs.declared.ids.workspace.WorkspaceResolution.{WorkspaceResolution}
+use Rattle.tinymist_vfs.specs.declared.ids.workspace.WorkspaceResolution.TheVariants.{Workspace, UntitledRooted, Rootless, Package}
 
 -- what an id stands in
 pub data Kind : Type 0 where

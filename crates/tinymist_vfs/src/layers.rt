@@ -1,22 +1,31 @@
 //! The layers that a commit changes.
-ghost use Rattle.std.specs.Prelude.{◌≡◌, ◌+◌, ◌≤◌, IfOk, OnErr, OnOk, map as list_map};
+ghost use Rattle.std.specs.Prelude.{◌≡◌, ◌+◌, ◌≤◌, Some, IfOk, OnErr, OnOk, map as list_map};
 ghost use Rattle.std.specs.FinMap as map;
 ghost use Rattle.ty_path.specs.Shared.{path_text};
 ghost use Rattle.tinymist_vfs.specs.Maps.{path_map};
 ghost use Rattle.tinymist_vfs.specs.Items.{item_of, items_of};
 ghost use Rattle.tinymist_vfs.specs.ChangeSet.{removed_paths, inserted_files};
+ghost use Rattle.ty_model.specs.Values.{same_answer};
+ghost use Rattle.ty_model.specs.Standing.{same_option};
 ghost use Rattle.ty_model.specs.Version as plain;
 ghost use Rattle.ty_model.specs.Batch as change;
 
-use crate::item::{FileChangeSet, Item};
-use crate::stamp::Stamp;
-use crate::store::{put_id, put_path, take_id, take_path};
-use crate::told::change_told;
+pub(crate) mod changes;
+pub(crate) mod path_marks;
+pub(crate) mod same;
+pub(crate) mod stamp;
+pub(crate) mod store;
+pub(crate) mod told;
+
+use crate::batch::item::{FileChangeSet, Item};
+use crate::layers::stamp::Stamp;
+use crate::layers::store::{at_text, put_id, put_path, take_id, take_path};
+use crate::layers::told::change_told;
 use std::alloc::Global;
 use std::marker::Model;
 use std::sync::ledger::Ledger;
 use ty_cells::FileSnapshot;
-use ty_path::{ImmutPath, OutOfMemory, Share};
+use ty_path::{CleanPath, ImmutPath, OutOfMemory, Share};
 use ty_persist::{Map, Steps};
 use ty_syntax::FileId;
 
@@ -84,18 +93,30 @@ impl Layers {
         self.drops = Map::new(alloc);
     }
 
-    fn map_path<L: Ledger>(
+    /// Whether this is the shadow of a path.
+    pub(crate) fn has_shadow(&self, path: &CleanPath, shadow: &FileSnapshot) -> bool
+        ensures { result ≡ same_option same_answer (map.get self.now.by_path path.now) (Some shadow.now) }
+    {
+        match at_text(&self.by_path, path.as_str()) {
+            Some(before) => before.same_as(shadow),
+            None => false,
+        }
+    }
+
+    /// Sets the shadow of a path. Out of memory leaves the layers as they were.
+    pub(crate) fn map_path<L: Ledger>(
         &mut self,
         alloc: Global,
-        path: &ImmutPath,
+        path: &CleanPath,
         snap: &FileSnapshot,
         steps: &mut Steps<L>,
     ) -> Result<(), OutOfMemory>
-        ensures { OnOk result (self.new ≡ record self.old { by_path = map.insert self.old.by_path (path_text path.now) snap.now }) }
+        ensures ok { OnOk result (self.new ≡ record self.old { by_path = map.insert self.old.by_path path.now snap.now }) }
+        ensures err { OnErr result (self.new ≡ self.old) }
     {
         put_path(
             &mut self.by_path,
-            path.share(alloc)?,
+            path.to_shared(alloc)?,
             snap.share(alloc)?,
             steps,
         )
@@ -105,13 +126,14 @@ impl Layers {
         &mut self,
         alloc: Global,
         stamp: Stamp,
-        path: &ImmutPath,
+        path: &CleanPath,
         steps: &mut Steps<L>,
     ) -> Result<(), OutOfMemory>
-        ensures { OnOk result (self.new ≡ record self.old { by_path = map.remove self.old.by_path (path_text path.now); drops = map.insert self.old.drops (path_text path.now) stamp }) }
+        ensures { OnOk result (self.new ≡ record self.old { by_path = map.remove self.old.by_path path.now; drops = map.insert self.old.drops path.now stamp }) }
     {
-        take_path(&mut self.by_path, path, steps)?;
-        put_path(&mut self.drops, path.share(alloc)?, stamp, steps)
+        let path = path.to_shared(alloc)?;
+        take_path(&mut self.by_path, &path, steps)?;
+        put_path(&mut self.drops, path, stamp, steps)
     }
 
     fn map_id<L: Ledger>(

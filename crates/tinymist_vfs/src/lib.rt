@@ -1,37 +1,22 @@
 //! Layers of files with revisions, snapshots and reads.
 #![tactic(auto)]
 
-mod access;
-mod change_set;
-mod changes;
-mod clean;
-mod deps;
-mod display;
-mod event;
-mod item;
+mod batch;
+mod ids;
 mod layers;
-mod notify;
-mod overlay;
-mod reading;
-mod resolver;
-mod revise;
-mod same;
-mod shadows;
-mod stamp;
-mod store;
-mod told;
-mod under;
+mod model;
 mod vfs;
-mod workspace;
+mod watch;
 
-pub use access::{AccessModel, ResolveAccessModel};
-pub use deps::NotifyDeps;
-pub use display::Resolving;
-pub use event::{FilesystemEvent, MemoryEvent, NotifyMessage, UpstreamUpdateEvent};
-pub use item::FileChangeSet;
-pub use notify::NotifyAccessModel;
-pub use overlay::OverlayAccessModel;
-pub use resolver::{MockRootResolver, PathResolution, RootResolver, WORKSPACE_NS};
-pub use revise::{HoldsVfs, ReviseFault, RevisingVfs};
+pub use batch::Batch;
+pub use batch::item::{FileChangeSet, Item};
+pub use batch::revise::{HoldsVfs, ReviseFault, RevisingVfs};
+pub use ids::display::Resolving;
+pub use ids::resolver::{MockRootResolver, PathResolution, RootResolver, WORKSPACE_NS};
+pub use ids::workspace::{WorkspaceId, WorkspaceResolution, WorkspaceResolver};
+pub use model::access::{AccessModel, ResolveAccessModel};
+pub use model::notify::NotifyAccessModel;
+pub use model::overlay::OverlayAccessModel;
 pub use vfs::Vfs;
-pub use workspace::{WorkspaceId, WorkspaceResolution, WorkspaceResolver};
+pub use watch::deps::NotifyDeps;
+pub use watch::event::{FilesystemEvent, MemoryEvent, NotifyMessage, UpstreamUpdateEvent};

@@ -1,20 +1,24 @@
 //! The layers of a virtual file system, with their revision.
-ghost use Rattle.std.specs.Prelude.{◌≡◌, ◌+◌, ◌-◌, ◌^◌, ◌<◌, ◌≤◌, List, [], OnErr, OnOk, IfOk, IfErr, IsErr, IsErrOf};
+ghost use Rattle.std.specs.Prelude.{◌≡◌, ◌+◌, ◌-◌, ◌^◌, ◌≤◌, List, [], OnErr, OnOk, IfOk, IfErr, IsErr, IsErrOf};
 ghost use Rattle.ty_model.specs.Version.{first_version};
 ghost use Rattle.ty_model.specs.Standing.{no_changes};
 ghost use Rattle.ty_model.specs.Held.{version_of, Standing};
 ghost use Rattle.ty_model.specs.Version as plain;
 
-use crate::changes::Changes;
-use crate::item::{Item, changes_view};
+mod clean;
+mod commit;
+mod listing;
+mod read;
+mod reset;
+
+use crate::ids::resolver::RootResolver;
 use crate::layers::Layers;
-use crate::resolver::RootResolver;
-use crate::revise::ReviseFault;
-use crate::same::either;
-use crate::stamp::Stamp;
+use crate::layers::changes::Changes;
+use crate::layers::stamp::Stamp;
 use std::alloc::Global;
-use std::marker::{Brand, Model};
-use std::sync::ledger::{Blank, Ledger};
+use std::marker::Model;
+use std::sync::ledger::Ledger;
+use ty_path::OutOfMemory;
 use ty_persist::Steps;
 use ty_syntax::{TagFault, Tags};
 
@@ -60,62 +64,6 @@ impl<R> Vfs<R> {
     }
 }
 
-impl<R> Vfs<R> {
-    ghost use Rattle.tinymist_vfs.specs.Items.{items_of};
-    ghost use Rattle.tinymist_vfs.specs.Commits.{committed, is_full};
-
-    fn commit_steps<L: Ledger>(
-        &mut self,
-        batch: &[Item],
-        steps: &mut Steps<L>,
-    ) -> Result<u64, ReviseFault>
-        ensures ok { IfOk result (λ n. (self.new ≡ committed self.old (items_of batch.now)) × (n ≡ self.new.held.revision)) }
-        ensures err { OnErr result (self.new ≡ self.old) }
-        ensures full { IsErrOf result ReviseFault.Full → is_full self.old.held (items_of batch.now) }
-        ensures small { IfOk result (λ n. n < 2 ^ 64) }
-    {
-        let mut layers = self.layers.share(steps)?;
-        let stamp = Stamp::next(self.space, self.revision);
-        layers.apply_all(self.alloc, stamp, batch, steps)?;
-        let mut changes = self.changes.share(steps)?;
-        let revision = self.revision.saturating_add(1);
-        let differs = changes.mark_all(self.alloc, &self.layers, &layers, batch, revision, steps)?;
-        if !either(differs, changes_view(batch)) {
-            return Ok(self.revision);
-        }
-        if self.revision == u64::MAX {
-            return Err(ReviseFault::Full);
-        }
-        self.layers = layers;
-        self.changes = changes;
-        self.revision = revision;
-        Ok(revision)
-    }
-
-    fn commit_blank<L: Ledger>(&mut self, batch: &[Item], blank: Blank) -> Result<u64, ReviseFault>
-        requires name { blank.name ≡ L.name }
-        requires parts { blank.parts ≡ L.parts }
-        requires some { 0 < L.parts }
-        ensures ok { IfOk result (λ n. (self.new ≡ committed self.old (items_of batch.now)) × (n ≡ self.new.held.revision)) }
-        ensures err { OnErr result (self.new ≡ self.old) }
-        ensures full { IsErrOf result ReviseFault.Full → is_full self.old.held (items_of batch.now) }
-        ensures small { IfOk result (λ n. n < 2 ^ 64) }
-    {
-        let mut steps: Steps<L> = Steps::new(blank);
-        self.commit_steps(batch, &mut steps)
-    }
-
-    /// Commits a batch. What can be refused comes before the first write.
-    pub(crate) fn commit_batch(&mut self, batch: &[Item]) -> Result<u64, ReviseFault>
-        ensures ok { IfOk result (λ n. (self.new ≡ committed self.old (items_of batch.now)) × (n ≡ self.new.held.revision)) }
-        ensures err { OnErr result (self.new ≡ self.old) }
-        ensures full { IsErrOf result ReviseFault.Full → is_full self.old.held (items_of batch.now) }
-        ensures exact { is_full self.old.held (items_of batch.now) → IsErr result }
-    {
-        self.commit_blank::<Brand>(batch, Blank::new(1))
-    }
-}
-
 impl<R: RootResolver> Vfs<R> {
     /// Layers without files, as the first version of a fresh space number. It takes no memory.
     ///
@@ -146,6 +94,22 @@ impl<R: RootResolver> Vfs<R> {
         })
     }
 
+    /// An equal value under the same space number: a copy to change, which takes the place of this one or is dropped.
+    pub fn staged<L: Ledger>(&self, steps: &mut Steps<L>) -> Result<Vfs<R>, OutOfMemory>
+        ensures same { IfOk result (λ v. v ≡ self.now) }
+        ensures cost { steps.new ≤ steps.old + 6 }
+    {
+        Ok(Vfs {
+            alloc: self.alloc,
+            space: self.space,
+            revision: self.revision,
+            layers: self.layers.share(steps)?,
+            reset: self.reset,
+            changes: self.changes.share(self.alloc, steps)?,
+            resolver: self.resolver.share(self.alloc)?,
+        })
+    }
+
     /// A copy under a fresh space number.
     ///
     /// # Errors
@@ -159,6 +123,7 @@ impl<R: RootResolver> Vfs<R> {
         ensures space { IfOk result (λ v. v.held.space ≡ tags.old.next_space) }
         ensures version { IfOk result (λ v. version_of R.known v ≡ version_of R.known self.now) }
         ensures changes { IfOk result (λ v. v.held.changes ≡ self.now.held.changes) }
+        ensures resolver { IfOk result (λ v. v.resolver ≡ self.now.resolver) }
         ensures standing { (past : List plain.Version) → Standing R.known self.now past → IfOk result (λ v. Standing R.known v past) }
         ensures tags { OnOk result (tags.new ≡ record tags.old { next_space = tags.old.next_space + 1 }) }
         ensures err { OnErr result (tags.new ≡ tags.old) }
@@ -166,19 +131,9 @@ impl<R: RootResolver> Vfs<R> {
         ensures exact { tags.old.next_space ≡ 2 ^ 64 - 1 → IsErr result }
         ensures cost { steps.new ≤ steps.old + 8 }
     {
-        let layers = self.layers.share(steps)?;
-        let changes = self.changes.share(steps)?;
-        let resolver = self.resolver.share(self.alloc)?;
-        let space = tags.fresh_space()?;
-        Ok(Vfs {
-            alloc: self.alloc,
-            space,
-            revision: self.revision,
-            layers,
-            reset: self.reset,
-            changes,
-            resolver,
-        })
+        let mut copy = self.staged(steps)?;
+        copy.space = tags.fresh_space()?;
+        Ok(copy)
     }
 
     /// The same layers under a fresh space number, as one version without a past: nothing was dropped yet,
@@ -191,6 +146,7 @@ impl<R: RootResolver> Vfs<R> {
         ensures space { IfOk result (λ v. v.held.space ≡ tags.old.next_space) }
         ensures version { IfOk result (λ v. version_of R.known v ≡ plain.forked v.held.space (version_of R.known self.now)) }
         ensures changes { IfOk result (λ v. v.held.changes ≡ no_changes) }
+        ensures resolver { IfOk result (λ v. v.resolver ≡ self.now.resolver) }
         ensures standing { IfOk result (λ v. Standing R.known v []) }
         ensures tags { OnOk result (tags.new ≡ record tags.old { next_space = tags.old.next_space + 1 }) }
         ensures err { OnErr result (tags.new ≡ tags.old) }

@@ -1,5 +1,5 @@
 -- Where change revisions stand for a list of versions, they tell which ids are clean.
-use Rattle.std.proofs.Common.{◌≡◌, ℕ, ◌≤◌, Bool, true, false, cond, ◌&&◌, List, [], ◌∷◌, map, refl, sym, ap, ◌∙◌, inl, inr}
+use Rattle.std.proofs.Common.{◌≡◌, ℕ, ◌≤◌, Bool, true, false, cond, ◌&&◌, List, [], ◌∷◌, map, refl, sym, ap, ◌∙◌, arith, inl, inr}
 use Rattle.std.specs.Prelude.{nat_le}
 use Rattle.std.specs.List.{list_all}
 use Rattle.std.proofs.lemmas.Bool.Decides.{leb_tells}
@@ -9,7 +9,7 @@ use Rattle.ty_model.specs.Values.{Id, same_answer}
 use Rattle.ty_model.specs.Places.{Resolver}
 use Rattle.ty_model.specs.Places.{Place, At, Rootless, RefusedAt, place_of}
 use Rattle.ty_model.specs.Version.{Version, same_stamp}
-use Rattle.ty_model.specs.Standing.{since, all_same, same_option, at_path, same_at_path, Agrees, Changes, changed_id, StandsFor, entries_at, same_entries_at, at_place_of, nothing_at, is_clean, are_clean, path_by, clean_by}
+use Rattle.ty_model.specs.Standing.{since, all_same, same_option, at_path, same_at_path, RisesByOne, Agrees, Changes, changed_id, StandsFor, entries_at, same_entries_at, at_place_of, nothing_at, is_clean, are_clean, path_by, clean_by}
 use Rattle.ty_model.proofs.Standing.{not_later, since_none, le_true}
 
 -- ---- tests of a list
@@ -136,3 +136,22 @@ module _ (c : Changes) (v : Version) (vs : List Version) (s : StandsFor c (v ∷
 pub clean_all : (c : Changes) (v : Version) (vs : List Version) (s : StandsFor c (v ∷ vs)) (r : ℕ) (ids : List Id) → list_all (clean_by c v.resolver r) ids ≡ are_clean (v ∷ vs) r ids
 clean_all c v vs s r [] = refl
 clean_all c v vs s r (id ∷ ids) = λ i. clean_is c v vs s r id i && clean_all c v vs s r ids i
+
+-- ---- since the newest revision
+
+older_none : (v : Version) (vs : List Version) (r : ℕ) → RisesByOne (v ∷ vs) → v.revision ≤ r → since r vs ≡ []
+older_none v [] r rising le = refl
+older_none v (w ∷ ws) r rising le = since_none w.revision r (w ∷ ws) (not_later w ws rising.1) (let up = rising.0 in omega arith)
+
+one_newest : (v : Version) (vs : List Version) (r : ℕ) → RisesByOne (v ∷ vs) → v.revision ≤ r → (id : Id) → is_clean (v ∷ vs) r id ≡ true
+one_newest v vs r rising le id =
+    let none = older_none v vs r rising le in
+    elim (nat_le r v.revision) as (λ b. all_same same_entries_at (map (λ u. entries_at u id) (cond b (v ∷ since r vs) (since r vs))) ≡ true) [
+      | true ↦ rw none
+      | false ↦ rw none
+    ]
+
+-- since the newest revision every id is clean
+pub newest_clean : (v : Version) (vs : List Version) (r : ℕ) → RisesByOne (v ∷ vs) → v.revision ≤ r → (ids : List Id) → are_clean (v ∷ vs) r ids ≡ true
+newest_clean v vs r rising le [] = refl
+newest_clean v vs r rising le (id ∷ ids) = rw (one_newest v vs r rising le id, newest_clean v vs r rising le ids)

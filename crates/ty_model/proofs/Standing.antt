@@ -246,7 +246,7 @@ module _ (c : Changes) (v : Version) (vs : List Version) (s : StandsFor c (v ∷
   far : (r : ℕ) → w.revision ≤ r → c.reset ≤ r
   far r low = true_le c.reset r (past same_stamp reset_tells (λ u. u.reset) w v vs s.history.rising refl c.reset r (s.resets r) (omega arith))
 
-  pub reset_stands : StandsFor (record c { reset = v.revision + 1 }) (w ∷ v ∷ vs)
+  pub reset_stands : StandsFor (record { ids = finmap.empty; paths = finmap.empty; reset = v.revision + 1 }) (w ∷ v ∷ vs)
   reset_stands = record {
     history = record {
       rising = (refl, s.history.rising);
@@ -257,12 +257,12 @@ module _ (c : Changes) (v : Version) (vs : List Version) (s : StandsFor c (v ∷
     ids = λ id r low.
         let f = λ (u : Version). finmap.get u.layers.by_id id in
         let was = s.ids id r (far r low) in
-        past (same_option same_answer) id_tells f w v vs s.history.rising refl (changed_id c id) r was (omega arith)
+        ap (λ (o : Option ℕ). nat_le (unwrap_or o 0) r) (finmap.get-empty id_cmp id) ∙ le_true 0 r (omega arith)
         ∙ sym (alone (same_option same_answer) id_tells f w v vs s.history.rising refl (changed_id c id) r was (omega arith));
     paths = λ path r low.
         let f = λ (u : Version). at_path u.layers path in
         let was = s.paths path r (far r low) in
-        past same_at_path same_at_path-Decides f w v vs s.history.rising refl (changed_path c path) r was (omega arith)
+        ap (λ (o : Option ℕ). nat_le (unwrap_or o 0) r) (finmap.get-empty text_cmp path) ∙ le_true 0 r (omega arith)
         ∙ sym (alone same_at_path same_at_path-Decides f w v vs s.history.rising refl (changed_path c path) r was (omega arith));
   }
 

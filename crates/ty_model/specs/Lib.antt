@@ -12,3 +12,4 @@ pub mod Space
 pub mod Counters
 pub mod Faults
 pub mod Codes
+pub mod BatchCodes

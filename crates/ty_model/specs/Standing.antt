@@ -7,7 +7,7 @@ use Rattle.ty_model.specs.Values.{Id, Answer, id_cmp, text_cmp, same_answer}
 use Rattle.ty_model.specs.Places.{Resolver}
 use Rattle.ty_model.specs.Places.{Place, At, Rootless, RefusedAt, place_of}
 use Rattle.ty_model.specs.Version.{Stamp, Layers, Version, same_stamp}
-use Rattle.ty_model.specs.Batch.{Item, commit, rises}
+use Rattle.ty_model.specs.Batch.{Item, commit, rises, next_stamp}
 
 -- ---- versions, the newest first
 
@@ -153,6 +153,16 @@ pub record Held : Type 0 where
 -- the last version, with this resolver
 abbrev pub version_with : Held → Resolver → Version
 version_with h resolver = record { revision = h.revision; layers = h.layers; reset = h.reset; resolver = resolver }
+
+-- what is kept after a reset: nothing was dropped, and nothing has changed since
+abbrev pub reset_held : Held → Held
+reset_held h = record {
+  space = h.space;
+  revision = h.revision + 1;
+  layers = record (h.layers) { drops = finmap.empty };
+  reset = next_stamp h.space h.revision;
+  changes = record { ids = finmap.empty; paths = finmap.empty; reset = h.revision + 1 };
+}
 
 -- the change revisions after the layers became others at a revision
 pub record Marks (old new : Layers) (revision : ℕ) (before after : Changes) : Type 0 where

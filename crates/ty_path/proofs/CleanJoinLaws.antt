@@ -60,10 +60,10 @@ no_end ups text h =
 -- ---- a clean path and names
 
 -- the root, a path behind it, or a relative path
-abbrev Kinds : List ℕ → Type 0
+abbrev pub Kinds : List ℕ → Type 0
 Kinds text = (text ≡ 47 ∷ []) ⊎ (((rest : List ℕ) × (text ≡ 47 ∷ rest) × (are_clean false (parts_at 47 rest) ≡ true)) ⊎ ((is_absolute text ≡ false) × (are_clean true (parts_at 47 text) ≡ true)))
 
-kinds : (text : List ℕ) → clean_text text ≡ true → bytes_eq text dot ≡ false → Kinds text
+pub kinds : (text : List ℕ) → clean_text text ≡ true → bytes_eq text dot ≡ false → Kinds text
 kinds [] h other = absurd (true≢false (sym h))
 kinds (b ∷ bs) h other =
     elim (bytes_eq (b ∷ bs) (47 ∷ [])) as (λ t. bytes_eq (b ∷ bs) (47 ∷ []) ≡ t → (t || cond (eqb b 47) (are_clean false (parts_at 47 bs)) (are_clean true (parts_at 47 (b ∷ bs)))) ≡ true → Kinds (b ∷ bs)) [

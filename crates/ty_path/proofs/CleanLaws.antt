@@ -116,7 +116,7 @@ first_clean ups p ps =
 counted_first : (p : List ℕ) (ps : List (List ℕ)) → counts p ≡ true → counted (p ∷ ps) ≡ component_of p ∷ counted ps
 counted_first p ps h = rw h refl
 
-counted-clean : (ups : Bool) (ps : List (List ℕ)) → are_clean ups ps ≡ true → counted ps ≡ map component_of ps
+pub counted-clean : (ups : Bool) (ps : List (List ℕ)) → are_clean ups ps ≡ true → counted ps ≡ map component_of ps
 counted-clean ups [] h = refl
 counted-clean ups (p ∷ ps) h =
     let first = first_clean ups p ps h in
@@ -125,7 +125,7 @@ counted-clean ups (p ∷ ps) h =
       | false ↦ λ is. counted_first p ps is.0 ∙ ap (λ cs. component_of p ∷ cs) (counted-clean false ps is.2)
     ] first.1
 
-after_dot-clean : (ups : Bool) (ps : List (List ℕ)) → are_clean ups ps ≡ true → counted_after_dot ps ≡ counted ps
+pub after_dot-clean : (ups : Bool) (ps : List (List ℕ)) → are_clean ups ps ≡ true → counted_after_dot ps ≡ counted ps
 after_dot-clean ups [] h = refl
 after_dot-clean ups (p ∷ ps) h =
     let first = first_clean ups p ps h in
@@ -173,11 +173,11 @@ text_again p =
       ] refl
     ] refl
 
-texts_again : (ps : List (List ℕ)) → map component_text (map component_of ps) ≡ ps
+pub texts_again : (ps : List (List ℕ)) → map component_text (map component_of ps) ≡ ps
 texts_again [] = refl
 texts_again (p ∷ ps) = λ i. text_again p i ∷ texts_again ps i
 
-text_of-parts : (ps : List (List ℕ)) → text_of (map component_of ps) ≡ joined ps
+pub text_of-parts : (ps : List (List ℕ)) → text_of (map component_of ps) ≡ joined ps
 text_of-parts [] = refl
 text_of-parts (p ∷ ps) =
     elim (bytes_eq p dot) as (λ t. text_of (cond t CurDir (cond (bytes_eq p dot_dot) ParentDir (Normal p)) ∷ map component_of ps) ≡ joined (component_text (cond t CurDir (cond (bytes_eq p dot_dot) ParentDir (Normal p))) ∷ map component_text (map component_of ps))) [
@@ -199,13 +199,13 @@ pub dotted_text : (ups : Bool) (text : List ℕ) → are_clean ups (parts_at 47 
 dotted_text ups [] h = absurd (true≢false (sym h))
 dotted_text ups (b ∷ text) h = refl
 
-relative_clean : (text : List ℕ) → is_absolute text ≡ false → are_clean true (parts_at 47 text) ≡ true → clean text ≡ text
+pub relative_clean : (text : List ℕ) → is_absolute text ≡ false → are_clean true (parts_at 47 text) ≡ true → clean text ≡ text
 relative_clean text other h =
     ap (λ t. or_dot (text_of (cleaned (cond t (RootDir ∷ counted (parts_at 47 text)) (counted_after_dot (parts_at 47 text)))))) other
     ∙ ap (λ cs. or_dot (text_of (cleaned cs))) (after_dot-clean true (parts_at 47 text) h)
     ∙ ap or_dot (parts_text true text h) ∙ dotted_text true text h
 
-absolute_clean : (rest : List ℕ) → are_clean false (parts_at 47 rest) ≡ true → clean (47 ∷ rest) ≡ 47 ∷ rest
+pub absolute_clean : (rest : List ℕ) → are_clean false (parts_at 47 rest) ≡ true → clean (47 ∷ rest) ≡ 47 ∷ rest
 absolute_clean rest h =
     let ps = parts_at 47 rest in
     let cs = map component_of ps in

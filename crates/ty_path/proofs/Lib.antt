@@ -6,3 +6,4 @@ pub mod NormalLaws
 pub mod RelativeLaws
 pub mod CleanLaws
 pub mod CleanJoinLaws
+pub mod ParentLaws

@@ -14,6 +14,7 @@ use crate::memory::{ImmutPath, OutOfMemory};
 use crate::parts;
 use crate::pass::is_clean;
 use crate::share::Share;
+use crate::written::or_dot;
 use std::alloc::Global;
 use std::cmp::Ordering;
 use std::fmt;
@@ -93,11 +94,14 @@ impl CleanPath {
     }
 
     /// The path without its last component, where it has one that isn't the root; `.` where nothing else is left.
+    /// It is cut at the last slash, and nothing is cleaned.
     pub fn parent(&self, alloc: Global) -> Result<Option<CleanPath>, OutOfMemory>
         ensures { IfOk result (λ path. path ≡ option_map plain.clean (plain.parent self.now)) }
     {
-        match parts::parent(alloc, self.as_str())? {
-            Some(path) => Ok(Some(CleanPath::new(alloc, path.as_str())?)),
+        match parts::before_last(self.text.as_str()) {
+            Some(front) => Ok(Some(CleanPath {
+                text: Arc::new(alloc, or_dot(String::from_str(alloc, front)?)?)?,
+            })),
             None => Ok(None),
         }
     }
@@ -158,7 +162,7 @@ impl Ord for CleanPath {
     ghost matches_eq = { texts_ties };
 
     fn cmp(&self, other: &CleanPath) -> Ordering {
-        self.as_str().cmp(other.as_str())
+        self.as_str().as_bytes().cmp(other.as_str().as_bytes())
     }
 }
 

@@ -2,6 +2,5 @@ pub mod SeenLaws
 pub mod Entries
 pub mod Low
 pub mod Probes
-pub mod Places
 pub mod Puts
 pub mod Turns

@@ -3,5 +3,4 @@ pub mod Shape
 pub mod Seen
 pub mod Rest
 pub mod Texts
-pub mod ListMap
 pub mod Puts

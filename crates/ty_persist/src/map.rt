@@ -6,14 +6,14 @@ ghost use Rattle.std.specs.Map.{lookup, remove_entry};
 ghost use Rattle.std.specs.BTreeMap.{is_at};
 ghost use Rattle.std.specs.Map.Iter.{ShowsInOrder, deref_pair};
 ghost use Rattle.ty_persist.specs.Contents.{put_entry, IsAscending, IsLow};
-ghost use Rattle.ty_persist.specs.Texts.{is_text};
+ghost use Rattle.ty_persist.specs.Texts.{is_text, has_text};
 
 use crate::tree::{Outcome, Tree};
 use crate::{Iter, Steps};
 use std::alloc::Global;
 use std::marker::Model;
 use std::sync::ledger::Ledger;
-use ty_path::{ImmutPath, OutOfMemory, Share};
+use ty_path::{CleanPath, ImmutPath, OutOfMemory, Share};
 
 mod plain;
 
@@ -196,6 +196,15 @@ impl<V: Share> Map<ImmutPath, V> {
     /// The value at the path with this text, as `get` at that path. It takes no memory.
     pub fn get_text(&self, path: &str) -> Option<&V>
         ensures { option_copied result ≡ lookup (is_text path.now) self.now.entries }
+    {
+        self.tree.get_text(path)
+    }
+}
+
+impl<V: Share> Map<CleanPath, V> {
+    /// The value at the clean path with this text, as `get` at that path. It takes no memory.
+    pub fn get_text(&self, path: &str) -> Option<&V>
+        ensures { option_copied result ≡ lookup (has_text path.now) self.now.entries }
     {
         self.tree.get_text(path)
     }

@@ -5,7 +5,7 @@ ghost use Rattle.std.specs.Cmp.Lexicographic.{slice_cmp};
 ghost use Rattle.ty_path.specs.Shared.{path_text};
 
 use std::cmp::Ordering;
-use ty_path::ImmutPath;
+use ty_path::{CleanPath, ImmutPath};
 
 /// A key that is ordered as its text.
 pub(crate) trait TextKey: Ord {
@@ -27,5 +27,17 @@ impl TextKey for ImmutPath {
 
     fn compare_with(&self, text: &str) -> Ordering {
         text.as_bytes().cmp(self.as_bytes())
+    }
+}
+
+impl TextKey for CleanPath {
+    ghost text_of = { λ p. p };
+
+    ghost use Rattle.std.specs.Prelude.{refl};
+
+    ghost reads = { λ a b. refl };
+
+    fn compare_with(&self, text: &str) -> Ordering {
+        text.as_bytes().cmp(self.as_str().as_bytes())
     }
 }

@@ -257,6 +257,46 @@ fn balanced<K: Ord + Share, V: Share, L: Ledger>(
     }
 }
 
+// The node with another left side, rotated where one is two levels higher. The old one stays.
+fn with_left<K: Ord + Share, V: Share, L: Ledger>(
+    alloc: Global,
+    node: &Node<K, V>,
+    left: Tree<K, V>,
+    steps: &mut Steps<L>,
+) -> Result<Tree<K, V>, OutOfMemory>
+    requires ascending { IsAscending K.cmp (around left (arc_value node.now.entry) node.now.right) }
+    requires near { DifferByAtMost 2 left.height node.now.right.height }
+    requires height_fits { max left.height node.now.right.height ≤ 2 ^ 63 }
+    ensures entries { IfOk result (λ t. t.entries ≡ around left (arc_value node.now.entry) node.now.right) }
+    ensures height { IfOk result (λ t. IsHeightAfterRebalance left.height node.now.right.height t.height) }
+    ensures cost { steps.new ≤ steps.old + 3 }
+    ensures low { IfOk result (λ t. IsLow t) }
+{
+    let entry = Arc::try_clone(&node.entry)?;
+    let right = node.right.share()?;
+    balanced(alloc, left, entry, right, steps)
+}
+
+// The node with another right side, rotated where one is two levels higher. The old one stays.
+fn with_right<K: Ord + Share, V: Share, L: Ledger>(
+    alloc: Global,
+    node: &Node<K, V>,
+    right: Tree<K, V>,
+    steps: &mut Steps<L>,
+) -> Result<Tree<K, V>, OutOfMemory>
+    requires ascending { IsAscending K.cmp (around node.now.left (arc_value node.now.entry) right) }
+    requires near { DifferByAtMost 2 node.now.left.height right.height }
+    requires height_fits { max node.now.left.height right.height ≤ 2 ^ 63 }
+    ensures entries { IfOk result (λ t. t.entries ≡ around node.now.left (arc_value node.now.entry) right) }
+    ensures height { IfOk result (λ t. IsHeightAfterRebalance node.now.left.height right.height t.height) }
+    ensures cost { steps.new ≤ steps.old + 3 }
+    ensures low { IfOk result (λ t. IsLow t) }
+{
+    let left = node.left.share()?;
+    let entry = Arc::try_clone(&node.entry)?;
+    balanced(alloc, left, entry, right, steps)
+}
+
 impl<K: Ord + Share, V: Share> Tree<K, V> {
     // The tree with an entry put in. This one stays.
     pub(crate) fn with_entry<L: Ledger>(
@@ -279,24 +319,12 @@ impl<K: Ord + Share, V: Share> Tree<K, V> {
                 match entry.key.cmp(&n.entry.key) {
                     Ordering::Less => {
                         let left = n.left.with_entry(alloc, entry, steps)?;
-                        balanced(
-                            alloc,
-                            left,
-                            Arc::try_clone(&n.entry)?,
-                            n.right.share()?,
-                            steps,
-                        )
+                        with_left(alloc, n, left, steps)
                     }
                     Ordering::Equal => fork(alloc, n.left.share()?, entry, n.right.share()?, steps),
                     Ordering::Greater => {
                         let right = n.right.with_entry(alloc, entry, steps)?;
-                        balanced(
-                            alloc,
-                            n.left.share()?,
-                            Arc::try_clone(&n.entry)?,
-                            right,
-                            steps,
-                        )
+                        with_right(alloc, n, right, steps)
                     }
                 }
             }
@@ -322,14 +350,9 @@ impl<K: Ord + Share, V: Share> Tree<K, V> {
             Root::Leaf => Ok(None),
             Root::Fork(n) => {
                 let n: &Node<K, V> = n;
-                let entry = Arc::try_clone(&n.entry)?;
-                let right = n.right.share()?;
                 match n.left.without_first(alloc, steps)? {
-                    None => Ok(Some((entry, right))),
-                    Some((first, left)) => Ok(Some((
-                        first,
-                        balanced(alloc, left, entry, right, steps)?,
-                    ))),
+                    None => Ok(Some((Arc::try_clone(&n.entry)?, n.right.share()?))),
+                    Some((first, left)) => Ok(Some((first, with_left(alloc, n, left, steps)?))),
                 }
             }
         }
@@ -355,13 +378,7 @@ impl<K: Ord + Share, V: Share> Tree<K, V> {
                 match key.cmp(&n.entry.key) {
                     Ordering::Less => {
                         let left = n.left.without_key(alloc, key, steps)?;
-                        balanced(
-                            alloc,
-                            left,
-                            Arc::try_clone(&n.entry)?,
-                            n.right.share()?,
-                            steps,
-                        )
+                        with_left(alloc, n, left, steps)
                     }
                     Ordering::Equal => match n.right.without_first(alloc, steps)? {
                         None => Ok(n.left.share()?),
@@ -375,13 +392,7 @@ impl<K: Ord + Share, V: Share> Tree<K, V> {
                     },
                     Ordering::Greater => {
                         let right = n.right.without_key(alloc, key, steps)?;
-                        balanced(
-                            alloc,
-                            n.left.share()?,
-                            Arc::try_clone(&n.entry)?,
-                            right,
-                            steps,
-                        )
+                        with_right(alloc, n, right, steps)
                     }
                 }
             }

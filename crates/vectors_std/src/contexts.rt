@@ -1,12 +1,14 @@
 //! What each call makes of a failure or of another error.
 use crate::errors::{args, expect, text};
 use std::alloc::{AllocError, Global};
+use std::io;
 use std::num::ParseIntError;
+use std::process::Abort;
 use std::test::Fail;
 use tinymist_std::{
-    Args, ErrKind, ErrKindExt, Error, WithContext, WithContextUntyped, bail, error_once,
-    error_once_map, error_once_map_string, map_err, map_err_with_args, map_into_err,
-    map_into_err_with_args, map_string_err,
+    Args, ErrKind, ErrKindExt, Error, Printed, UntypedError, WithContext, WithContextUntyped, bail,
+    error_once, error_once_map, error_once_map_string, map_err, map_err_with_args, map_into_err,
+    map_into_err_with_args, map_string_err, map_string_err_with_args, wrap_err, wrap_err_with_args,
 };
 use ty_path::OutOfMemory;
 
@@ -29,7 +31,7 @@ fn mapped(alloc: Global, digits: &str) -> tinymist_std::Result<u8> {
 }
 
 /// The calls that make an error.
-#[derive(Clone, Copy, Debug)]
+#[derive(Clone, Copy)]
 enum Call {
     Context,
     WithContext,
@@ -87,7 +89,7 @@ fn made(alloc: Global, call: Call) -> Option<Error> {
         Call::AbsentWithContext => None::<u8>
             .with_context(alloc, "p", || args(alloc, "k", "v").ok())
             .err(),
-        Call::MapStringErr => Some(map_string_err(alloc, "p", 7)),
+        Call::MapStringErr => Some(map_string_err(alloc, "p", Printed(7))),
         Call::Bail => reported(alloc, "a").err(),
         Call::ErrorOnce => Some(error_once!(alloc, "p", path: "a")),
         Call::ErrorOnceBare => Some(error_once!(alloc, "p")),
@@ -165,8 +167,8 @@ fn out_of_memory() -> Error {
     Error::new("q", ErrKind::OutOfMemory, None)
 }
 
-/// The calls that an error goes through.
-#[derive(Clone, Copy, Debug)]
+/// The calls that make of an error another one.
+#[derive(Clone, Copy)]
 enum Way {
     Context,
     WithContext,
@@ -187,47 +189,116 @@ static WAYS: [Way; 7] = [
     Way::ErrorOnceMap,
 ];
 
-/// The error that the call makes of one.
-fn gone<E: ErrKindExt>(alloc: Global, way: Way, given: E) -> Result<Option<Error>, AllocError> {
-    let failed: Result<u8, E> = Err(given);
-    match way {
-        Way::Context => Ok(failed.context(alloc, "p").err()),
-        Way::WithContext => Ok(
-            failed
-                .with_context(alloc, "p", || args(alloc, "k", "v").ok())
-                .err(),
-        ),
-        Way::ErrorOnceMap => Ok(failed.map_err(error_once_map!(alloc, "p", k: 1)).err()),
-        other => match failed {
-            Ok(_) => Ok(None),
-            Err(given) => Ok(Some(mapped_by(alloc, other, given)?)),
-        },
-    }
+/// A failure with that error.
+fn failed_with<E>(given: E) -> Result<u8, E> {
+    Err(given)
 }
 
-/// The error that the function makes of one.
-fn mapped_by<E: ErrKindExt>(alloc: Global, way: Way, given: E) -> Result<Error, AllocError> {
-    match way {
-        Way::MapErrWithArgs => Ok(map_err_with_args(alloc, "p", given, args(alloc, "k", "v")?)),
-        Way::MapIntoErr => Ok(map_into_err::<E, E>(alloc, "p", given)),
-        Way::MapIntoErrWithArgs => Ok(map_into_err_with_args::<E, E>(
-            alloc,
-            "p",
-            given,
-            args(alloc, "k", "v")?,
+/// The error that the call makes of one.
+fn gone<E: ErrKindExt>(alloc: Global, way: Way, given: E) -> Result<Option<Error>, AllocError> {
+    let arguments = args(alloc, "k", "v")?;
+    Ok(match way {
+        Way::Context => failed_with(given).context(alloc, "p").err(),
+        Way::WithContext => failed_with(given)
+            .with_context(alloc, "p", || args(alloc, "k", "v").ok())
+            .err(),
+        Way::ErrorOnceMap => failed_with(given)
+            .map_err(error_once_map!(alloc, "p", k: 1))
+            .err(),
+        Way::MapErr => Some(map_err(alloc, "p", given)),
+        Way::MapErrWithArgs => Some(map_err_with_args(alloc, "p", given, arguments)),
+        Way::MapIntoErr => Some(map_into_err::<E, E>(alloc, "p", given)),
+        Way::MapIntoErrWithArgs => Some(map_into_err_with_args::<E, E>(
+            alloc, "p", given, arguments,
         )),
-        _ => Ok(map_err(alloc, "p", given)),
+    })
+}
+
+/// The calls that make of an error a message.
+#[derive(Clone, Copy)]
+enum TextWay {
+    ContextUntyped,
+    WithContextUntyped,
+    MapStringErr,
+    MapStringErrWithArgs,
+    ErrorOnceMapString,
+}
+
+static TEXT_WAYS: [TextWay; 5] = [
+    TextWay::ContextUntyped,
+    TextWay::WithContextUntyped,
+    TextWay::MapStringErr,
+    TextWay::MapStringErrWithArgs,
+    TextWay::ErrorOnceMapString,
+];
+
+/// The error that the call makes of one by its text.
+fn told<E: UntypedError>(
+    alloc: Global,
+    way: TextWay,
+    given: E,
+) -> Result<Option<Error>, AllocError> {
+    let arguments = args(alloc, "k", "v")?;
+    Ok(match way {
+        TextWay::ContextUntyped => failed_with(given).context_ut(alloc, "p").err(),
+        TextWay::WithContextUntyped => failed_with(given)
+            .with_context_ut(alloc, "p", || args(alloc, "k", "v").ok())
+            .err(),
+        TextWay::ErrorOnceMapString => failed_with(given)
+            .map_err(error_once_map_string!(alloc, "p", k: 1))
+            .err(),
+        TextWay::MapStringErr => Some(map_string_err(alloc, "p", given)),
+        TextWay::MapStringErrWithArgs => {
+            Some(map_string_err_with_args(alloc, "p", given, arguments))
+        }
+    })
+}
+
+/// The error says that memory ran out, and nothing more.
+fn expect_out_of_memory(
+    rt: &impl Abort,
+    alloc: Global,
+    error: Option<Error>,
+) -> Result<(), AllocError> {
+    match error {
+        Some(error) => {
+            assert!(rt; error.kind().is_out_of_memory());
+            expect(rt, alloc, &error, "p: out of memory")
+        }
+        None => panic!(rt; "no error"),
     }
 }
 
 #[test]
 fn out_of_memory_stays_that(rt: HostRuntime) -> Result<(), Fail> {
+    let alloc = rt.alloc();
     for way in &WAYS {
-        let error = gone(rt.alloc(), *way, out_of_memory())?.ok_or("no error")?;
-        expect(&rt, rt.alloc(), &error, "p: out of memory")?;
-        let error = gone(rt.alloc(), *way, OutOfMemory)?.ok_or("no error")?;
-        expect(&rt, rt.alloc(), &error, "p: out of memory")?;
-        assert!(rt; error.kind().is_out_of_memory());
+        expect_out_of_memory(&rt, alloc, gone(alloc, *way, out_of_memory())?)?;
+        expect_out_of_memory(&rt, alloc, gone(alloc, *way, OutOfMemory)?)?;
+        expect_out_of_memory(&rt, alloc, gone(alloc, *way, AllocError)?)?;
     }
+    Ok(())
+}
+
+#[test]
+fn out_of_memory_is_no_message(rt: HostRuntime) -> Result<(), Fail> {
+    let alloc = rt.alloc();
+    for way in &TEXT_WAYS {
+        expect_out_of_memory(&rt, alloc, told(alloc, *way, out_of_memory())?)?;
+        expect_out_of_memory(&rt, alloc, told(alloc, *way, OutOfMemory)?)?;
+        expect_out_of_memory(&rt, alloc, told(alloc, *way, AllocError)?)?;
+        let refused = io::Error::from(io::ErrorKind::OutOfMemory);
+        expect_out_of_memory(&rt, alloc, told(alloc, *way, refused)?)?;
+    }
+    Ok(())
+}
+
+#[test]
+fn out_of_memory_is_not_wrapped(rt: HostRuntime) -> Result<(), Fail> {
+    let alloc = rt.alloc();
+    let wrapped = wrap_err(alloc, "p", out_of_memory());
+    expect_out_of_memory(&rt, alloc, Some(wrapped))?;
+    let wrapped = wrap_err_with_args(alloc, "p", out_of_memory(), args(alloc, "k", "v")?);
+    expect_out_of_memory(&rt, alloc, Some(wrapped))?;
     Ok(())
 }

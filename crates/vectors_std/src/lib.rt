@@ -6,6 +6,8 @@ mod contexts;
 #[cfg(test)]
 mod errors;
 #[cfg(test)]
+mod fakes;
+#[cfg(test)]
 mod files;
 #[cfg(test)]
 mod fingerprints;
@@ -27,5 +29,7 @@ mod replacing;
 mod sharing;
 #[cfg(test)]
 mod steps;
+#[cfg(test)]
+mod tables;
 #[cfg(test)]
 mod values;

@@ -1,269 +1,203 @@
-//! Files that are opened with a lock.
-use crate::steps::{Call, Row, Step, below, take};
-use std::alloc::{Allocator, Global};
-use std::fs::{File, Metadata, OpenOptions};
-use std::io::{ErrorKind, Read, Write};
+//! Files that are opened with a lock: a row names a file of a new folder, and what is done with its locks.
+use crate::fakes::{Refused, Refusing};
+use crate::steps::{Call, Step, act, below};
+use std::alloc::Global;
+use std::env;
+use std::env::Env;
+use std::fs::File;
+use std::io::{Read, Write};
 use std::process::Abort;
 use std::rt::Files;
 use std::test::Fail;
-use std::{env, io};
 use tinymist_std::paths::temp_dir_in;
 use tinymist_std::{FileLock, Filesystem, Result, WithContext, WithContextUntyped};
 
-/// Whether a lock can be had on the file at once: one that no other holder shares, and a shared one.
-fn expect_free<R: Files<File = File> + Abort>(
+/// A way to open a file with a lock.
+#[derive(Clone, Copy)]
+enum Way {
+    Exclusive,
+    TryExclusive,
+    Shared,
+    SharedCreate,
+    TryShared,
+}
+
+impl Way {
+    /// The lock, or none where another holds one that isn't shared.
+    fn open<R: Files<File = File>>(
+        self,
+        rt: &R,
+        files: &Filesystem,
+        path: &str,
+    ) -> Result<Option<FileLock>> {
+        match self {
+            Way::Exclusive => some(files.open_rw_exclusive_create(rt, path, "waits")),
+            Way::TryExclusive => files.try_open_rw_exclusive_create(rt, path),
+            Way::Shared => some(files.open_ro_shared(rt, path, "waits")),
+            Way::SharedCreate => some(files.open_ro_shared_create(rt, path, "waits")),
+            Way::TryShared => files.try_open_ro_shared_create(rt, path),
+        }
+    }
+}
+
+fn some(lock: Result<FileLock>) -> Result<Option<FileLock>> {
+    match lock {
+        Ok(lock) => Ok(Some(lock)),
+        Err(error) => Err(error),
+    }
+}
+
+/// What a row does at its path.
+#[derive(Clone, Copy)]
+enum Lock {
+    /// The file is opened, and its lock is held as the last one.
+    Takes(Way),
+    /// A lock is given, or is refused; it is given up at once.
+    Gives(Way, bool),
+    /// The file of the last lock is written.
+    Writes(&'static [u8]),
+    /// The file of the last lock can't be written.
+    OnlyReads,
+    /// The file of the last lock holds these bytes.
+    Reads(&'static [u8]),
+    /// The path of the last lock ends so, and that of its folder.
+    IsNamed(&'static str, &'static str),
+    /// A clone of the handle of the last lock is kept.
+    Clones,
+    /// The last lock is given up.
+    Drops,
+    /// What stands beside the file of the last lock is removed.
+    Clears,
+    /// That is refused with an error that names the path of the lock.
+    RefusesToClear,
+    /// That fails at the path of this row where no file can be removed.
+    FailsToClear,
+    /// Something else is done at the path, or found there.
+    Does(Step),
+}
+
+/// A path below the folder, and what happens there.
+type Row = (&'static str, Lock);
+
+/// The tables.
+#[derive(Clone, Copy)]
+enum Table {
+    /// Held locks refuse others.
+    Held,
+    /// Dropped locks are free beside clones.
+    Cloned,
+    /// Readers do not write.
+    Readers,
+    /// Locked files are made.
+    Made,
+    /// Readers share locks.
+    Shared,
+    /// Shared locks are held by each.
+    SharedTwice,
+    /// Siblings are removed.
+    Cleared,
+    /// Failed removals name the entry.
+    NotCleared,
+    /// Nothing is removed beside no name.
+    Nameless,
+}
+
+impl Table {
+    /// The rows of the table.
+    fn rows(self) -> &'static [Row] {
+        match self {
+            Table::Held => &HELD,
+            Table::Cloned => &CLONED,
+            Table::Readers => &READERS,
+            Table::Made => &MADE,
+            Table::Shared => &SHARED,
+            Table::SharedTwice => &SHARED_TWICE,
+            Table::Cleared => &CLEARED,
+            Table::NotCleared => &NOT_CLEARED,
+            Table::Nameless => &NAMELESS,
+        }
+    }
+}
+
+/// The locks that are held, and the handles that are kept.
+#[derive(Drop)]
+struct Held {
+    locks: Vec<FileLock>,
+    clones: Vec<File>,
+}
+
+impl Held {
+    /// The last lock.
+    fn last(&self, alloc: Global) -> Result<&FileLock> {
+        self.locks.last().context(alloc, "last")
+    }
+}
+
+/// Takes a lock, or tries to.
+fn open<R: Files<File = File> + Abort>(
     rt: &R,
+    held: &mut Held,
     files: &Filesystem,
     path: &str,
-    exclusive: bool,
-    shared: bool,
+    step: Lock,
 ) -> Result<()> {
-    let lock = files.try_open_rw_exclusive_create(rt, path)?;
-    assert_eq!(rt; lock.is_some(), exclusive, "exclusive at {path}");
-    drop(lock);
-    let lock = files.try_open_ro_shared_create(rt, path)?;
-    assert_eq!(rt; lock.is_some(), shared, "shared at {path}");
+    match step {
+        Lock::Takes(way) => take(rt, held, way.open(rt, files, path)?),
+        Lock::Gives(way, want) => {
+            assert_eq!(rt; way.open(rt, files, path)?.is_some(), want, "at {path}");
+            Ok(())
+        }
+        _ => panic!(rt; "no lock"),
+    }
+}
+
+/// Holds the lock.
+fn take(rt: &impl Abort, held: &mut Held, lock: Option<FileLock>) -> Result<()> {
+    let alloc = *held.locks.allocator();
+    match lock {
+        Some(lock) => held.locks.push(lock).context_ut(alloc, "take"),
+        None => panic!(rt; "held by another"),
+    }
+}
+
+/// Writes or reads the file of a lock.
+fn transfer(rt: &impl Abort, alloc: Global, mut file: &File, step: Lock) -> Result<()> {
+    match step {
+        Lock::Writes(bytes) => file.write_all(bytes).context_ut(alloc, "transfer")?,
+        Lock::OnlyReads => assert!(rt; file.write_all(b"x").is_err()),
+        Lock::Reads(want) => {
+            let mut bytes = Vec::new(alloc);
+            let _count = file.read_to_end(&mut bytes).context_ut(alloc, "transfer")?;
+            assert_eq!(rt; bytes.as_slice(), want);
+        }
+        _ => panic!(rt; "nothing to write or read"),
+    }
     Ok(())
 }
 
-/// The folder of the files that are locked.
-fn made<R: Files>(rt: &R, alloc: Global, folder: &str) -> Result<Filesystem> {
-    let files = Filesystem::new(below(alloc, folder, "locks")?);
-    files.create_dir(rt)?;
-    Ok(files)
-}
-
-/// A lock is refused while another is held, and keeps what the file holds.
-fn hold<R: Files<File = File> + Abort>(rt: &R, alloc: Global, folder: &str) -> Result<()> {
-    let files = made(rt, alloc, folder)?;
-    let held = files.open_rw_exclusive_create(rt, "sub/a", "waits")?;
-    held.file().write_all(b"x").context_ut(alloc, "hold")?;
-    expect_paths(rt, &held);
-    expect_free(rt, &files, "sub/a", false, false)?;
-    drop(held);
-    expect_free(rt, &files, "sub/a", true, true)?;
-    expect_kept(rt, alloc, &files)
-}
-
-/// The paths of the lock.
-fn expect_paths(rt: &impl Abort, held: &FileLock) {
-    assert!(rt; held.path().ends_with("/locks/sub/a"));
-    assert!(rt;
-        held.parent()
-            .is_some_and(|folder| folder.ends_with("/locks/sub"))
-    );
-}
-
-/// The file holds what was written under the lock.
-fn expect_kept<R: Files<File = File> + Abort>(
+/// Removes what stands beside the file of a lock, or tries to.
+fn clear<R: Files<File = File> + Abort>(
     rt: &R,
-    alloc: Global,
-    files: &Filesystem,
+    lock: &FileLock,
+    path: &str,
+    step: Lock,
 ) -> Result<()> {
-    let again = files
-        .try_open_rw_exclusive_create(rt, "sub/a")?
-        .context(alloc, "again")?;
-    let mut text = Vec::new(alloc);
-    again
-        .file()
-        .read_to_end(&mut text)
-        .context_ut(alloc, "expect_kept")?;
-    assert_eq!(rt; text.as_slice(), b"x".as_slice());
-    Ok(())
-}
-
-#[test]
-fn held_locks_refuse_others(rt: HostRuntime) -> std::result::Result<(), Fail> {
-    let base = env::temp_dir(&rt)?;
-    let alloc = rt.alloc();
-    let rt = &rt;
-    temp_dir_in(
-        rt,
-        alloc,
-        base.as_str(),
-        move |folder| hold(rt, alloc, folder),
-    )?;
-    Ok(())
-}
-
-/// A lock is given up when it is dropped, also where a clone of its handle lives.
-fn keep_clone<R: Files<File = File> + Abort>(rt: &R, alloc: Global, folder: &str) -> Result<()> {
-    let files = made(rt, alloc, folder)?;
-    let held = files.open_rw_exclusive_create(rt, "a", "waits")?;
-    let clone = held.file().try_clone().context_ut(alloc, "keep_clone")?;
-    drop(held);
-    expect_free(rt, &files, "a", true, true)?;
-    drop(clone);
-    Ok(())
-}
-
-#[test]
-fn dropped_locks_are_free_beside_clones(rt: HostRuntime) -> std::result::Result<(), Fail> {
-    let base = env::temp_dir(&rt)?;
-    let alloc = rt.alloc();
-    let rt = &rt;
-    temp_dir_in(
-        rt,
-        alloc,
-        base.as_str(),
-        move |folder| keep_clone(rt, alloc, folder),
-    )?;
-    Ok(())
-}
-
-/// A handle that readers get reads alone, of a file that was made and of one that was there.
-fn refuse_to_write<R: Files<File = File> + Abort>(
-    rt: &R,
-    alloc: Global,
-    folder: &str,
-) -> Result<()> {
-    let files = made(rt, alloc, folder)?;
-    let made = files.open_ro_shared_create(rt, "a", "waits")?;
-    assert!(rt; made.file().write_all(b"x").is_err());
-    let found = files.open_ro_shared_create(rt, "a", "waits")?;
-    assert!(rt; found.file().write_all(b"x").is_err());
-    Ok(())
-}
-
-#[test]
-fn readers_do_not_write(rt: HostRuntime) -> std::result::Result<(), Fail> {
-    let base = env::temp_dir(&rt)?;
-    let alloc = rt.alloc();
-    let rt = &rt;
-    temp_dir_in(
-        rt,
-        alloc,
-        base.as_str(),
-        move |folder| refuse_to_write(rt, alloc, folder),
-    )?;
-    Ok(())
-}
-
-/// A file is made with its folder, by either lock.
-fn make<R: Files<File = File> + Abort>(rt: &R, alloc: Global, folder: &str) -> Result<()> {
-    let files = made(rt, alloc, folder)?;
-    assert!(rt; files.try_open_rw_exclusive_create(rt, "new/a")?.is_some());
-    assert!(rt; files.try_open_ro_shared_create(rt, "new/b")?.is_some());
-    Ok(())
-}
-
-#[test]
-fn locked_files_are_made(rt: HostRuntime) -> std::result::Result<(), Fail> {
-    let base = env::temp_dir(&rt)?;
-    let alloc = rt.alloc();
-    let rt = &rt;
-    temp_dir_in(
-        rt,
-        alloc,
-        base.as_str(),
-        move |folder| make(rt, alloc, folder),
-    )?;
-    Ok(())
-}
-
-static TWO_FILES: [Row; 3] = [
-    ("locks/sub", Step::Does(Call::CreateDirAll)),
-    ("locks/sub/a", Step::Does(Call::Write(b"x"))),
-    ("locks/sub/a", Step::SetMode(0o444)),
-];
-
-/// Readers share a lock, and need no leave to write.
-fn share<R: Files<File = File> + Abort>(rt: &R, alloc: Global, folder: &str) -> Result<()> {
-    let files = made(rt, alloc, folder)?;
-    take(rt, alloc, folder, &TWO_FILES)?;
-    let _shared = files.open_ro_shared(rt, "sub/a", "waits")?;
-    assert!(rt; files.try_open_ro_shared_create(rt, "sub/a")?.is_some());
-    take(rt, alloc, folder, &[("locks/sub/a", Step::SetMode(0o644))])?;
-    expect_free(rt, &files, "sub/a", false, true)
-}
-
-#[test]
-fn readers_share_locks(rt: HostRuntime) -> std::result::Result<(), Fail> {
-    let base = env::temp_dir(&rt)?;
-    let alloc = rt.alloc();
-    let rt = &rt;
-    temp_dir_in(
-        rt,
-        alloc,
-        base.as_str(),
-        move |folder| share(rt, alloc, folder),
-    )?;
-    Ok(())
-}
-
-/// A lock that two share is held until both are dropped.
-fn share_twice<R: Files<File = File> + Abort>(rt: &R, alloc: Global, folder: &str) -> Result<()> {
-    let files = made(rt, alloc, folder)?;
-    let first = files.open_ro_shared_create(rt, "sub/b", "waits")?;
-    let second = files.open_ro_shared_create(rt, "sub/b", "waits")?;
-    expect_free(rt, &files, "sub/b", false, true)?;
-    drop(second);
-    expect_free(rt, &files, "sub/b", false, true)?;
-    drop(first);
-    expect_free(rt, &files, "sub/b", true, true)
-}
-
-#[test]
-fn shared_locks_are_held_by_each(rt: HostRuntime) -> std::result::Result<(), Fail> {
-    let base = env::temp_dir(&rt)?;
-    let alloc = rt.alloc();
-    let rt = &rt;
-    temp_dir_in(
-        rt,
-        alloc,
-        base.as_str(),
-        move |folder| share_twice(rt, alloc, folder),
-    )?;
-    Ok(())
-}
-
-static BESIDE: [Row; 4] = [
-    ("locks/sub/d/e", Step::Does(Call::CreateDirAll)),
-    ("locks/sub/a", Step::Does(Call::Write(b"x"))),
-    ("locks/sub/b", Step::Does(Call::Write(b"x"))),
-    ("locks/sub/c", Step::Does(Call::Write(b""))),
-];
-
-static TWO_BESIDE: [Row; 3] = [
-    ("locks/sub", Step::Does(Call::CreateDirAll)),
-    ("locks/sub/a", Step::Does(Call::Write(b"x"))),
-    ("locks/sub/b", Step::Does(Call::Write(b"x"))),
-];
-
-static KEPT: [Row; 3] = [
-    ("locks/sub/a", Step::Holds(b"x")),
-    ("locks/sub/b", Step::Holds(b"x")),
-    ("locks/sub/d/e", Step::IsFolder),
-];
-
-static ALONE: [Row; 4] = [
-    ("locks/sub/a", Step::Holds(b"x")),
-    ("locks/sub/b", Step::IsMissing),
-    ("locks/sub/a", Step::Does(Call::RemoveFile)),
-    ("locks/sub", Step::Does(Call::RemoveDir)),
-];
-
-/// What stands beside a locked file is removed.
-fn clear<R: Files<File = File> + Abort>(rt: &R, alloc: Global, folder: &str) -> Result<()> {
-    let files = made(rt, alloc, folder)?;
-    take(rt, alloc, folder, &BESIDE)?;
-    let shared = files.open_ro_shared(rt, "sub/a", "waits")?;
-    shared.remove_siblings(rt)?;
-    take(rt, alloc, folder, &ALONE)
-}
-
-#[test]
-fn siblings_are_removed(rt: HostRuntime) -> std::result::Result<(), Fail> {
-    let base = env::temp_dir(&rt)?;
-    let alloc = rt.alloc();
-    let rt = &rt;
-    temp_dir_in(
-        rt,
-        alloc,
-        base.as_str(),
-        move |folder| clear(rt, alloc, folder),
-    )?;
-    Ok(())
+    match step {
+        Lock::Clears => lock.remove_siblings(rt),
+        Lock::RefusesToClear => {
+            expect_entry(rt, lock.remove_siblings(rt), lock.path(), lock.path());
+            Ok(())
+        }
+        Lock::FailsToClear => {
+            let files = Refusing {
+                files: rt,
+                refused: Refused::RemoveFile,
+            };
+            expect_entry(rt, lock.remove_siblings(&files), lock.path(), path);
+            Ok(())
+        }
+        _ => panic!(rt; "nothing to clear"),
+    }
 }
 
 /// The error names the path of the lock and the entry that failed.
@@ -280,105 +214,207 @@ fn expect_entry(rt: &impl Abort, answer: Result<()>, path: &str, entry: &str) {
     }
 }
 
-/// Files of which none is ever removed.
-#[derive(Drop)]
-struct Unremoved<'a, R>(&'a R);
+/// The path of the lock ends so, and that of its folder.
+fn expect_named(rt: &impl Abort, lock: &FileLock, path: &str, folder: &str) {
+    assert!(rt; lock.path().ends_with(path));
+    assert!(rt; lock.parent().is_some_and(|parent| parent.ends_with(folder)));
+}
 
-impl<R: Files> Files for Unremoved<'_, R> {
-    type File = R::File;
-
-    type Dir = R::Dir;
-
-    fn open_file(&self, how: &OpenOptions, path: &str) -> io::Result<R::File> {
-        self.0.open_file(how, path)
-    }
-
-    fn open_dir(&self, path: &str) -> io::Result<R::Dir> {
-        self.0.open_dir(path)
-    }
-
-    fn metadata(&self, path: &str) -> io::Result<Metadata> {
-        self.0.metadata(path)
-    }
-
-    fn symlink_metadata(&self, path: &str) -> io::Result<Metadata> {
-        self.0.symlink_metadata(path)
-    }
-
-    fn copy(&self, from: &str, to: &str) -> io::Result<u64> {
-        self.0.copy(from, to)
-    }
-
-    fn rename(&self, from: &str, to: &str) -> io::Result<()> {
-        self.0.rename(from, to)
-    }
-
-    fn remove_file(&self, _path: &str) -> io::Result<()> {
-        Err(io::Error::from(ErrorKind::PermissionDenied))
-    }
-
-    fn create_dir(&self, path: &str) -> io::Result<()> {
-        self.0.create_dir(path)
-    }
-
-    fn remove_dir(&self, path: &str) -> io::Result<()> {
-        self.0.remove_dir(path)
-    }
-
-    fn remove_dir_all<B: Allocator>(&self, alloc: B, path: &str) -> io::Result<()> {
-        self.0.remove_dir_all(alloc, path)
+/// Keeps a clone of the handle of the last lock, or gives the lock up.
+fn change(rt: &impl Abort, alloc: Global, held: &mut Held, step: Lock) -> Result<()> {
+    match step {
+        Lock::Clones => {
+            let clone = held
+                .last(alloc)?
+                .file()
+                .try_clone()
+                .context_ut(alloc, "change")?;
+            held.clones.push(clone).context_ut(alloc, "change")
+        }
+        Lock::Drops => {
+            assert!(rt; held.locks.pop().is_some());
+            Ok(())
+        }
+        _ => panic!(rt; "nothing to change"),
     }
 }
 
-/// An entry that can't be removed is named.
-fn fail_to_clear<R: Files<File = File> + Abort>(rt: &R, alloc: Global, folder: &str) -> Result<()> {
-    let files = made(rt, alloc, folder)?;
-    take(rt, alloc, folder, &TWO_BESIDE)?;
-    let held = files.open_ro_shared(rt, "sub/a", "waits")?;
-    let entry = below(alloc, folder, "locks/sub/b")?;
-    let answer = held.remove_siblings(&Unremoved(rt));
-    expect_entry(rt, answer, held.path(), entry.as_str());
-    take(rt, alloc, folder, &[("locks/sub/b", Step::Holds(b"x"))])
+/// Takes one row, whose path is in the folder of `files`.
+fn play<R: Files<File = File> + Abort>(
+    rt: &R,
+    alloc: Global,
+    files: &Filesystem,
+    held: &mut Held,
+    row: Row,
+) -> Result<()> {
+    let (name, step) = row;
+    let folder = files.as_path_unlocked();
+    let path = below(alloc, folder, name)?;
+    match step {
+        Lock::Takes(_) | Lock::Gives(..) => open(rt, held, files, name, step),
+        Lock::Writes(_) | Lock::OnlyReads | Lock::Reads(_) => {
+            transfer(rt, alloc, held.last(alloc)?.file(), step)
+        }
+        Lock::Clears | Lock::RefusesToClear | Lock::FailsToClear => {
+            clear(rt, held.last(alloc)?, path.as_str(), step)
+        }
+        Lock::IsNamed(path, folder) => {
+            expect_named(rt, held.last(alloc)?, path, folder);
+            Ok(())
+        }
+        Lock::Clones | Lock::Drops => change(rt, alloc, held, step),
+        Lock::Does(step) => act(rt, alloc, folder, path.as_str(), step),
+    }
 }
 
-#[test]
-fn failed_removals_name_the_entry(rt: HostRuntime) -> std::result::Result<(), Fail> {
-    let base = env::temp_dir(&rt)?;
-    let alloc = rt.alloc();
-    let rt = &rt;
-    temp_dir_in(
-        rt,
-        alloc,
-        base.as_str(),
-        move |folder| fail_to_clear(rt, alloc, folder),
-    )?;
-    Ok(())
-}
-
-/// Beside a path without a name nothing is removed.
-fn clear_nameless<R: Files<File = File> + Abort>(
+/// Takes the rows of a table in their order, in a folder that is made.
+fn play_in<R: Files<File = File> + Abort>(
     rt: &R,
     alloc: Global,
     folder: &str,
+    table: Table,
 ) -> Result<()> {
-    let files = made(rt, alloc, folder)?;
-    take(rt, alloc, folder, &BESIDE)?;
-    let nameless = files.open_ro_shared(rt, "sub/..", "waits")?;
-    let answer = nameless.remove_siblings(rt);
-    expect_entry(rt, answer, nameless.path(), nameless.path());
-    take(rt, alloc, folder, &KEPT)
+    let files = Filesystem::new(below(alloc, folder, "locks")?);
+    files.create_dir(rt)?;
+    let mut held = Held {
+        locks: Vec::new(alloc),
+        clones: Vec::new(alloc),
+    };
+    for row in table.rows() {
+        play(rt, alloc, &files, &mut held, *row)?;
+    }
+    Ok(())
 }
 
+static TABLES: [Table; 9] = [
+    Table::Held,
+    Table::Cloned,
+    Table::Readers,
+    Table::Made,
+    Table::Shared,
+    Table::SharedTwice,
+    Table::Cleared,
+    Table::NotCleared,
+    Table::Nameless,
+];
+
 #[test]
-fn nothing_is_removed_beside_no_name(rt: HostRuntime) -> std::result::Result<(), Fail> {
-    let base = env::temp_dir(&rt)?;
+fn tables_on_locks_hold(rt: HostRuntime) -> std::result::Result<(), Fail> {
+    for table in &TABLES {
+        play_anew(&rt, *table)?;
+    }
+    Ok(())
+}
+
+/// Takes the rows of a table in a new folder of the system's one for temporary files.
+fn play_anew<R: Files<File = File> + Abort + Env + AllocGlobal>(
+    rt: &R,
+    table: Table,
+) -> Result<()> {
     let alloc = rt.alloc();
-    let rt = &rt;
+    let base = env::temp_dir(rt).context_ut(alloc, "play_anew")?;
     temp_dir_in(
         rt,
         alloc,
         base.as_str(),
-        move |folder| clear_nameless(rt, alloc, folder),
-    )?;
-    Ok(())
+        move |folder| play_in(rt, alloc, folder, table),
+    )
 }
+
+static HELD: [Row; 11] = [
+    ("sub/a", Lock::Takes(Way::Exclusive)),
+    ("sub/a", Lock::Writes(b"x")),
+    ("sub/a", Lock::IsNamed("/locks/sub/a", "/locks/sub")),
+    ("sub/a", Lock::Gives(Way::TryExclusive, false)),
+    ("sub/a", Lock::Gives(Way::TryShared, false)),
+    ("sub/a", Lock::Drops),
+    ("sub/a", Lock::Gives(Way::TryExclusive, true)),
+    ("sub/a", Lock::Gives(Way::TryShared, true)),
+    ("sub/a", Lock::Takes(Way::TryExclusive)),
+    ("sub/a", Lock::Reads(b"x")),
+    ("sub/a", Lock::Drops),
+];
+
+static CLONED: [Row; 5] = [
+    ("a", Lock::Takes(Way::Exclusive)),
+    ("a", Lock::Clones),
+    ("a", Lock::Drops),
+    ("a", Lock::Gives(Way::TryExclusive, true)),
+    ("a", Lock::Gives(Way::TryShared, true)),
+];
+
+/// A handle that readers get reads alone, of a file that was made and of one that was there.
+static READERS: [Row; 4] = [
+    ("a", Lock::Takes(Way::SharedCreate)),
+    ("a", Lock::OnlyReads),
+    ("a", Lock::Takes(Way::SharedCreate)),
+    ("a", Lock::OnlyReads),
+];
+
+/// A file is made with its folder, by either lock.
+static MADE: [Row; 2] = [
+    ("new/a", Lock::Gives(Way::TryExclusive, true)),
+    ("new/b", Lock::Gives(Way::TryShared, true)),
+];
+
+/// Readers share a lock, and need no leave to write.
+static SHARED: [Row; 8] = [
+    ("sub", Lock::Does(Step::Does(Call::CreateDirAll))),
+    ("sub/a", Lock::Does(Step::Does(Call::Write(b"x")))),
+    ("sub/a", Lock::Does(Step::SetMode(0o444))),
+    ("sub/a", Lock::Takes(Way::Shared)),
+    ("sub/a", Lock::Gives(Way::TryShared, true)),
+    ("sub/a", Lock::Does(Step::SetMode(0o644))),
+    ("sub/a", Lock::Gives(Way::TryExclusive, false)),
+    ("sub/a", Lock::Gives(Way::TryShared, true)),
+];
+
+/// A lock that two share is held until both are dropped.
+static SHARED_TWICE: [Row; 10] = [
+    ("sub/b", Lock::Takes(Way::SharedCreate)),
+    ("sub/b", Lock::Takes(Way::SharedCreate)),
+    ("sub/b", Lock::Gives(Way::TryExclusive, false)),
+    ("sub/b", Lock::Gives(Way::TryShared, true)),
+    ("sub/b", Lock::Drops),
+    ("sub/b", Lock::Gives(Way::TryExclusive, false)),
+    ("sub/b", Lock::Gives(Way::TryShared, true)),
+    ("sub/b", Lock::Drops),
+    ("sub/b", Lock::Gives(Way::TryExclusive, true)),
+    ("sub/b", Lock::Gives(Way::TryShared, true)),
+];
+
+/// What stands beside a locked file is removed.
+static CLEARED: [Row; 10] = [
+    ("sub/d/e", Lock::Does(Step::Does(Call::CreateDirAll))),
+    ("sub/a", Lock::Does(Step::Does(Call::Write(b"x")))),
+    ("sub/b", Lock::Does(Step::Does(Call::Write(b"x")))),
+    ("sub/c", Lock::Does(Step::Does(Call::Write(b"")))),
+    ("sub/a", Lock::Takes(Way::Shared)),
+    ("sub/a", Lock::Clears),
+    ("sub/a", Lock::Does(Step::Holds(b"x"))),
+    ("sub/b", Lock::Does(Step::IsMissing)),
+    ("sub/a", Lock::Does(Step::Does(Call::RemoveFile))),
+    ("sub", Lock::Does(Step::Does(Call::RemoveDir))),
+];
+
+/// An entry that can't be removed is named.
+static NOT_CLEARED: [Row; 6] = [
+    ("sub", Lock::Does(Step::Does(Call::CreateDirAll))),
+    ("sub/a", Lock::Does(Step::Does(Call::Write(b"x")))),
+    ("sub/b", Lock::Does(Step::Does(Call::Write(b"x")))),
+    ("sub/a", Lock::Takes(Way::Shared)),
+    ("sub/b", Lock::FailsToClear),
+    ("sub/b", Lock::Does(Step::Holds(b"x"))),
+];
+
+/// Beside a path without a name nothing is removed.
+static NAMELESS: [Row; 8] = [
+    ("sub/d/e", Lock::Does(Step::Does(Call::CreateDirAll))),
+    ("sub/a", Lock::Does(Step::Does(Call::Write(b"x")))),
+    ("sub/b", Lock::Does(Step::Does(Call::Write(b"x")))),
+    ("sub/..", Lock::Takes(Way::Shared)),
+    ("sub/..", Lock::RefusesToClear),
+    ("sub/a", Lock::Does(Step::Holds(b"x"))),
+    ("sub/b", Lock::Does(Step::Holds(b"x"))),
+    ("sub/d/e", Lock::Does(Step::IsFolder)),
+];

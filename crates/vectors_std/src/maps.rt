@@ -125,7 +125,7 @@ fn dash_maps_hold_entries(rt: HostRuntime) -> Result<(), Fail> {
 }
 
 /// What a call does with a key, and what it answers.
-#[derive(Clone, Copy, Debug)]
+#[derive(Clone, Copy)]
 enum Step {
     Insert(u64, Option<u64>),
     Remove(Option<u64>),

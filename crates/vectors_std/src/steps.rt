@@ -1,4 +1,5 @@
 //! Tests on files as tables: a row names a path of a new folder, what is done there and what is found.
+use crate::fakes::{Refused, Refusing};
 use std::alloc::Global;
 use std::fs::{File, FileTimes, OpenOptions, Permissions};
 use std::io::Write;
@@ -9,30 +10,34 @@ use std::time::{Duration, SystemTime, UNIX_EPOCH};
 use std::{fs, io};
 use tinymist_std::paths::{
     append, copy, create, create_dir_all, metadata, open, read, read_bytes, remove_dir,
-    remove_dir_all, remove_file, write, write_atomic, write_if_changed,
+    remove_dir_all, remove_file, temp_dir_in, write, write_atomic, write_if_changed,
 };
-use tinymist_std::{ErrKind, Error, ReadAllOnce, Result, WithContext, WithContextUntyped};
+use tinymist_std::{
+    ErrKind, Error, Filesystem, ReadAllOnce, Result, WithContext, WithContextUntyped,
+};
 
 /// A call at a path.
-#[derive(Clone, Copy, Debug)]
+#[derive(Clone, Copy)]
 pub enum Call {
     Append(&'static [u8]),
     Create(&'static [u8]),
     CreateDirAll,
     Metadata,
     Open,
+    OpenShared,
     Read,
     ReadBytes,
     RemoveDir,
     RemoveDirAll,
     RemoveFile,
+    TempDirIn,
     Write(&'static [u8]),
     WriteAtomic(&'static [u8]),
     WriteIfChanged(&'static [u8]),
 }
 
 /// What a row of a test does at its path, or finds there.
-#[derive(Clone, Copy, Debug)]
+#[derive(Clone, Copy)]
 pub enum Step {
     /// The call goes through.
     Does(Call),
@@ -40,6 +45,10 @@ pub enum Step {
     Fails(Call),
     /// The file is copied to this path, and so many bytes are counted.
     Copies(&'static str, u64),
+    /// The file can't be copied to this path; the error names both paths.
+    FailsToCopy(&'static str),
+    /// An atomic write to the file fails where no file can be renamed.
+    FailsToRename,
     /// The file is given these permissions.
     SetMode(u32),
     /// The file is given a time long past.
@@ -85,6 +94,15 @@ fn open_and_read<R: Files>(rt: &R, alloc: Global, path: &str) -> Result<Vec<u8>>
     }
 }
 
+/// Opens a file with a lock that readers share.
+fn open_shared<R: Files<File = File>>(rt: &R, alloc: Global, path: &str) -> Result<()> {
+    let files = Filesystem::new(below(alloc, "/", "")?);
+    match files.open_ro_shared(rt, path, "waits") {
+        Ok(_) => Ok(()),
+        Err(error) => Err(error),
+    }
+}
+
 impl Call {
     /// The name of the call, as errors have it.
     fn name(self) -> &'static str {
@@ -94,11 +112,13 @@ impl Call {
             Call::CreateDirAll => "create_dir_all",
             Call::Metadata => "metadata",
             Call::Open => "open",
+            Call::OpenShared => "open_ro_shared",
             Call::Read => "read",
             Call::ReadBytes => "read_bytes",
             Call::RemoveDir => "remove_dir",
             Call::RemoveDirAll => "remove_dir_all",
             Call::RemoveFile => "remove_file",
+            Call::TempDirIn => "temp_dir_in",
             Call::Write(_) => "write",
             Call::WriteAtomic(_) => "write_atomic",
             Call::WriteIfChanged(_) => "write_if_changed",
@@ -106,18 +126,20 @@ impl Call {
     }
 
     /// Makes the call.
-    pub fn run<R: Files>(self, rt: &R, alloc: Global, path: &str) -> Result<()> {
+    pub fn run<R: Files<File = File>>(self, rt: &R, alloc: Global, path: &str) -> Result<()> {
         match self {
             Call::Append(bytes) => append(rt, alloc, path, bytes),
             Call::Create(bytes) => create_with(rt, alloc, path, bytes),
             Call::CreateDirAll => create_dir_all(rt, alloc, path),
             Call::Metadata => done(metadata(rt, alloc, path)),
             Call::Open => done(open_and_read(rt, alloc, path)),
+            Call::OpenShared => open_shared(rt, alloc, path),
             Call::Read => done(read(rt, alloc, path)),
             Call::ReadBytes => done(read_bytes(rt, alloc, path)),
             Call::RemoveDir => remove_dir(rt, alloc, path),
             Call::RemoveDirAll => remove_dir_all(rt, alloc, path),
             Call::RemoveFile => remove_file(rt, alloc, path),
+            Call::TempDirIn => temp_dir_in(rt, alloc, path, |_| -> Result<()> { Ok(()) }),
             Call::Write(bytes) => write(rt, alloc, path, bytes),
             Call::WriteAtomic(bytes) => write_atomic(rt, alloc, path, bytes),
             Call::WriteIfChanged(bytes) => write_if_changed(rt, alloc, path, bytes),
@@ -144,6 +166,29 @@ pub fn expect_named<T>(rt: &impl Abort, answer: Result<T>, call: &str, path: &st
             );
         }
     }
+}
+
+/// The error of a copy names both paths.
+fn expect_copy_fault(rt: &impl Abort, answer: Result<u64>, from: &str, to: &str) {
+    match answer {
+        Ok(_) => panic!(rt; "copied"),
+        Err(error) => {
+            assert_eq!(rt; error.loc(), "copy");
+            assert!(rt;
+                matches!(error.arguments(), [("from", a), ("to", b), ("error", _)]
+                    if a.as_str() == from && b.as_str() == to)
+            );
+        }
+    }
+}
+
+/// A new file that can't take the name is an error.
+fn expect_no_rename<R: Files + Abort>(rt: &R, alloc: Global, path: &str) {
+    let files = Refusing {
+        files: rt,
+        refused: Refused::Rename,
+    };
+    assert!(rt; write_atomic(&files, alloc, path, b"new").is_err());
 }
 
 /// The bytes of the file, read by both calls.
@@ -190,7 +235,7 @@ fn is_old<R: Files>(rt: &R, alloc: Global, path: &str) -> Result<bool> {
 }
 
 /// What is done at a path.
-fn act<R: Files<File = File> + Abort>(
+pub fn act<R: Files<File = File> + Abort>(
     rt: &R,
     alloc: Global,
     folder: &str,
@@ -204,6 +249,11 @@ fn act<R: Files<File = File> + Abort>(
             let to = below(alloc, folder, to)?;
             assert_eq!(rt; copy(rt, alloc, path, to.as_str())?, count);
         }
+        Step::FailsToCopy(to) => {
+            let to = below(alloc, folder, to)?;
+            expect_copy_fault(rt, copy(rt, alloc, path, to.as_str()), path, to.as_str());
+        }
+        Step::FailsToRename => expect_no_rename(rt, alloc, path),
         Step::SetMode(mode) => {
             fs::set_permissions(rt, path, Permissions::from_mode(mode)).context_ut(
                 alloc, "set_mode",

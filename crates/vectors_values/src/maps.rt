@@ -10,8 +10,9 @@ use std::sync::atomic::{AtomicU64, Ordering};
 use std::sync::ledger::{Blank, Ledger};
 use std::thread;
 use std::thread::Threads;
-use ty_path::{ImmutPath, OutOfMemory, Share};
-use ty_persist::{ListMap, Map, Steps};
+use ty_path::{CleanPath, ImmutPath, OutOfMemory, Share};
+use ty_persist::{Map, Steps};
+use ty_persist_plain::ListMap;
 
 // ---- one table of commands for both forms
 
@@ -471,6 +472,22 @@ fn texts_find_paths(rt: HostRuntime) -> Result<(), OutOfMemory> {
     Ok(())
 }
 
+// A clean path finds its value by itself and by its text.
+#[test]
+fn clean_paths_are_keys(rt: HostRuntime) -> Result<(), OutOfMemory> {
+    let mut map = Map::new(rt.alloc());
+    for (i, text) in ["/b", "/a/../a/c", "/a/"].iter().enumerate() {
+        map.set(CleanPath::new(rt.alloc(), text)?, i as u64)?;
+    }
+    for (text, value) in [("/a/c", Some(1)), ("/a", Some(2)), ("/c", None)] {
+        let path = CleanPath::new(rt.alloc(), text)?;
+        assert_eq!(rt; map.get(&path).copied(), value, "at {text}");
+        assert_eq!(rt; map.get_text(text).copied(), value, "at {text}");
+    }
+    assert_eq!(rt; map.get_text("/a/").copied(), None);
+    Ok(())
+}
+
 // ---- threads
 
 // A share of the map moves into another thread.
@@ -518,18 +535,6 @@ fn threads_share_a_map(rt: HostRuntime) -> Result<(), OutOfMemory> {
 #[test]
 fn calls_without_a_count(rt: HostRuntime) -> Result<(), OutOfMemory> {
     let mut map: Map<u64, u64> = Map::new(rt.alloc());
-    map.set(1, 10)?;
-    map.set(1, 11)?;
-    assert_eq!(rt; map.replace(1, 12)?, Some(11));
-    let before = map.snapshot()?;
-    assert_eq!(rt; map.take(&1)?, Some(12));
-    assert_eq!(rt; (map.get(&1), before.get(&1)), (None, Some(&12)));
-    Ok(())
-}
-
-#[test]
-fn calls_of_the_list_without_a_count(rt: HostRuntime) -> Result<(), OutOfMemory> {
-    let mut map: ListMap<u64, u64> = ListMap::new(rt.alloc());
     map.set(1, 10)?;
     map.set(1, 11)?;
     assert_eq!(rt; map.replace(1, 12)?, Some(11));

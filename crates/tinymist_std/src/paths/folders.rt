@@ -4,8 +4,8 @@ ghost use Rattle.std.specs.Borrow.{Bor};
 ghost use Rattle.tinymist_std.specs.Paths.{IsFileFault, StandsIn};
 
 use crate::error::{Error, Result};
-use crate::paths::named;
 use crate::paths::temporary::{Place, made_in, random_part};
+use crate::paths::{named, readable};
 use std::alloc::Global;
 use std::rt::Files;
 use std::{fs, io};
@@ -80,16 +80,8 @@ fn create_in<R: Files>(rt: &R, alloc: Global, path: &str) -> io::Result<String>
     let (folder, ()) = made_in(
         alloc,
         place,
-        |folder| make_parent(rt, folder),
+        |folder| fs::create_dir_all(rt, readable(folder)),
         |folder| fs::create_dir(rt, folder),
     )?;
     Ok(folder)
-}
-
-/// Makes the folder where it is missing; an empty path is the folder in which the program runs.
-fn make_parent<R: Files>(rt: &R, folder: &str) -> io::Result<()> {
-    if folder.is_empty() {
-        return Ok(());
-    }
-    fs::create_dir_all(rt, folder)
 }

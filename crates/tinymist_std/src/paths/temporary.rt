@@ -1,5 +1,7 @@
 //! Paths of temporary files and folders: a number, a random part and the name that they are for.
-ghost use Rattle.std.specs.Prelude.{◌≡◌, false, Ok, IfOk, IsTrue, string_bytes};
+ghost use Rattle.std.specs.Prelude.{◌≡◌, ◌≤◌, ◌<◌, ℕ, List, [], false, Ok, IfOk, IsTrue, length, string_bytes, unwrap_or};
+ghost use Rattle.std.specs.Borrow.{Bor};
+ghost use Rattle.std.specs.Path.{path_file_name};
 ghost use Rattle.tinymist_std.specs.Paths.{StandsIn, has_slash};
 ghost use Rattle.ty_model.specs.Paths.{is_name};
 
@@ -50,7 +52,9 @@ pub(super) fn first_free<T, F: Fn(&str) -> io::Result<T> + Drop>(
     make: F,
 ) -> io::Result<(String, T)>
     requires { F.IsAlwaysCallable make }
-    ensures { IfOk result (λ made. StandsIn place.entry.folder.now (string_bytes made.0)) }
+    ensures place { IfOk result (λ made. StandsIn place.entry.folder.now (string_bytes made.0)) }
+    ensures made { IfOk result (λ made. (path : Bor (List ℕ))
+        × (path.now ≡ string_bytes made.0) × F.post make path (Ok made.1)) }
 {
     for number in 0..u32::MAX {
         let path = numbered_in(alloc, place, number)?;
@@ -97,7 +101,10 @@ fn numbered(alloc: Global, carried: &str, unique: u64, number: u32) -> Result<St
 
 /// The name of the path, where there is one and it isn't long.
 fn carried(path: &str) -> &str
-    ensures { has_slash result.now ≡ false }
+    ensures plain { has_slash result.now ≡ false }
+    ensures short { let name = unwrap_or (path_file_name path.now) [] in
+        length name ≤ 100 → has_slash name ≡ false → result.now ≡ name }
+    ensures long { 100 < length (unwrap_or (path_file_name path.now) []) → result.now ≡ [] }
 {
     let name = Path::new(path).file_name().unwrap_or("");
     // A name has no slash; the test shows it to the proof.

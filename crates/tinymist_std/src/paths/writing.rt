@@ -1,17 +1,16 @@
 //! Files that are made and written.
-ghost use Rattle.std.specs.Prelude.{◌≡◌, ◌≢◌, ◌↔◌, Some, IfErr, IsTrue, bit_and, codes};
+ghost use Rattle.std.specs.Prelude.{◌≡◌, ◌≢◌, ◌↔◌, Some, true, IfErr, IsTrue, bit_and, codes};
 ghost use Rattle.std.specs.Option.{option_map};
-ghost use Rattle.std.specs.Fs.{permissions_mode};
+ghost use Rattle.std.specs.Fs.{new_options, permissions_mode, with_append, with_create};
 ghost use Rattle.tinymist_std.specs.Paths.{IsCopyFault, IsFileFault, IsPresent};
 
 use crate::error::Result;
 use crate::paths::temporary::{Place, first_free, random_part};
-use crate::paths::{copied, named};
+use crate::paths::{copied, folder_of, named};
 use std::alloc::Global;
 use std::fs::{File, OpenFile, OpenOptions, Permissions};
 use std::io::{ErrorKind, Write};
 use std::os::unix::fs::PermissionsExt;
-use std::path::Path;
 use std::rt::Files;
 use std::{fs, io};
 
@@ -74,9 +73,16 @@ pub fn copy<R: Files>(rt: &R, alloc: Global, from: &str, to: &str) -> Result<u64
 
 /// Adds the bytes to the file's end.
 fn extend<R: Files>(rt: &R, path: &str, contents: &[u8]) -> io::Result<()> {
+    appending_options().open(rt, path)?.write_all(contents)
+}
+
+/// How a file is opened so that what is written goes to its end; a missing file is made.
+fn appending_options() -> OpenOptions
+    ensures { result ≡ with_create (with_append new_options true) true }
+{
     let mut options = OpenOptions::new();
     options.append(true).create(true);
-    options.open(rt, path)?.write_all(contents)
+    options
 }
 
 /// Makes the file hold the bytes, and writes it only where it is missing or holds others.
@@ -149,13 +155,13 @@ fn kept_permissions(there: &Permissions) -> Permissions
 
 /// A new file in the folder of the path, and its path.
 fn create_beside<R: Files>(rt: &R, alloc: Global, path: &str) -> io::Result<(String, R::File)> {
-    let Some(folder) = Path::new(path).parent() else {
+    let Some(folder) = folder_of(path) else {
         return Err(io::Error::from(ErrorKind::InvalidInput));
     };
     first_free(
         alloc,
         Place {
-            folder: folder.as_str(),
+            folder,
             target: path,
             unique: random_part(rt),
         },

@@ -1,5 +1,5 @@
 //! The program's arguments, and the fault lines of its statuses.
-use crate::files::disk_of;
+use crate::disk::disk_of;
 use crate::session::both::{program, sink};
 use std::test::Fail;
 use tinymist_session::{SessionFault, bad_words, out_of_memory};

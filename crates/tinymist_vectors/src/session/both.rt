@@ -1,5 +1,5 @@
 //! Both programs over one input: the real one through its top call, and the plain one beside it.
-use crate::files::disk_of;
+use crate::disk::disk_of;
 use std::alloc::Global;
 use std::process::Abort;
 use std::test::Fail;

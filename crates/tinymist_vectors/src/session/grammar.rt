@@ -1,5 +1,5 @@
 //! Lines at the edges of the grammar: the good ones are answered, and the others end a session.
-use crate::files::disk_of;
+use crate::disk::disk_of;
 use crate::session::both::both_end;
 use std::alloc::Global;
 use std::test::Fail;

@@ -1,6 +1,6 @@
 //! Readers and writers of the library as a source and a sink: calls that are interrupted, and one that fails in
 //! mid-stream.
-use crate::files::disk_of;
+use crate::disk::disk_of;
 use crate::session::both::sink as empty_sink;
 use std::io::{self, ErrorKind, Read, Write};
 use std::test::Fail;

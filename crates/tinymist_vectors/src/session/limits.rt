@@ -1,5 +1,5 @@
 //! The limits of a session: how long a line may be, and how many lines there may be.
-use crate::files::disk_of;
+use crate::disk::disk_of;
 use crate::session::both::both_end;
 use std::test::Fail;
 use tinymist_plain::End;

@@ -2,7 +2,7 @@
 ghost use Rattle.std.specs.Prelude.{◌≡◌};
 ghost use Rattle.tinymist_session.specs.Memory.{are_positive};
 
-use crate::files::disk_of;
+use crate::disk::disk_of;
 use crate::session::both::{Run, sink};
 use std::alloc::Global;
 use std::test::Fail;

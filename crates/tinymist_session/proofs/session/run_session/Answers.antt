@@ -1,4 +1,4 @@
-use Rattle.std.proofs.Common.{◌∙◌}
+use Rattle.std.proofs.Common.{◌∙◌, inl}
 use Rattle.tinymist_session.specs.Session.{replies_to}
 use Rattle.tinymist_session.specs.Said.{limits_said}
 use Rattle.tinymist_session.proofs.Passes.{ends_flushed, written_flushed}
@@ -16,3 +16,8 @@ pub returns-clause-answered : goal.returns-clause-answered
 returns-clause-answered g c = λ input told is disk fixed fault.
     let a = c.run-answer.ensures.answered input told is disk fixed (read_kept c.run-answer.result c.finish-2.result c.finish-2.ensures.same fault) in
     (a.0, c.finish-2.ensures.taken ∙ a.1)
+
+pub returns-clause-flushed_before_read : goal.returns-clause-flushed_before_read
+returns-clause-flushed_before_read g c = λ fault.
+    let was = read_kept c.run-answer.result c.finish-2.result c.finish-2.ensures.same fault in
+    rw (c.finish-2.ensures.untouched (inl was)) (c.run-answer.ensures.flushed_before_read was)

@@ -8,7 +8,7 @@ use Rattle.tinymist_vfs.proofs.Steps.{drop_key_step, keys_so_far}
 use Rattle.tinymist_vfs.proofs.layers.drop_keys.Goals as goal
 
 pub loop-path-preserved : goal.loop-path-preserved
-loop-path-preserved g c = drop_key_step c.loop-path.yielded (c.in-Some.path, c.in-Some.field-0-1) c.in_ok-share.field-0 c.in_ok-share.ensures c.args.stamp _ _ _ c.loop-path.invariant c.in_ok-put_path.ensures
+loop-path-preserved g c = drop_key_step c.loop-path.yielded (c.in-Some.path, c.in-Some.field-0-1) c.in_ok-share.field-0 c.in_ok-share.ensures c.args.stamp _ _ _ c.loop-path.invariant c.in_ok-put_path.ensures.ok
 
 pub returns : goal.returns
 returns g c =

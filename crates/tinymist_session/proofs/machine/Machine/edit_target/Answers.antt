@@ -3,7 +3,7 @@ use Rattle.std.specs.Prelude.{slice_set}
 use Rattle.std.proofs.lemmas.Option.{slice_get_read}
 use Rattle.ty_model.specs.Held.{Kept}
 use Rattle.tinymist_vfs.specs.Commits.{committed}
-use Rattle.tinymist_vfs.specs.declared.resolver.MockRootResolver.{MockRootResolver}
+use Rattle.tinymist_vfs.specs.declared.ids.resolver.MockRootResolver.{MockRootResolver}
 use Rattle.tinymist_session.specs.Machine.{Stepped, edit_step}
 use Rattle.tinymist_session.specs.Reply.{AtRevision}
 use Rattle.tinymist_session.specs.Said.{edit_said}

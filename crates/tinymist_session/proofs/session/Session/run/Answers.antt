@@ -50,6 +50,7 @@ loop-n-preserved g c = record {
       goes_on (limits_said c.args.limits) told input c.loop-n.n (ahead c.loop-n.self.reader (g.S.LineSource.left c.loop-n.source)) (ahead c.pass.new.self.reader (g.S.LineSource.left c.pass.new.source)) (g.M.PathAccessModel.told c.loop-n.disk) (g.M.PathAccessModel.told c.pass.new.disk) (g.W.ByteSink.taken c.args.sink.now) (g.W.ByteSink.taken c.loop-n.sink) (g.W.ByteSink.taken c.pass.new.sink)
       c.loop-n.self.machine.live c.pass.new.self.machine.live c.loop-n.self.machine.views.items c.pass.new.self.machine.views.items c.loop-n.self.machine.tags c.pass.new.self.machine.tags
       p (c.in-Ok-true.ensures.left told p.disk_is fixed) (subst (λ (b : Bool). PassSays (limits_said c.args.limits) told p.state c.loop-n.n p.rest (ahead c.pass.new.self.reader (g.S.LineSource.left c.pass.new.source)) (g.W.ByteSink.taken c.loop-n.sink) (g.W.ByteSink.taken c.pass.new.sink) c.pass.new.self.machine.live c.pass.new.self.machine.views.items c.pass.new.self.machine.tags (Ok b)) c.in-Ok-true.field-0-test (c.in-Ok-true.ensures.says p.rest told p.state p.left_is p.disk_is p.shown));
+  kept = λ told disk fixed. c.in-Ok-true.ensures.left told (c.loop-n.invariant.kept told disk fixed) fixed;
   revision = omega (arith, c.in-Ok-true.ensures.revision);
   number = omega (arith, c.in-Ok-true.ensures.number);
   reads = omega (arith, c.in-Ok-true.ensures.read_cause.later);
@@ -79,6 +80,7 @@ pub loop-n-init : goal.loop-n-init
 loop-n-init g c = record {
   ahead_is = λ input is. record { rest = input; lines = []; front = front_start (limits_said c.args.limits) input; left_is = start_ahead (held_of c.args.self.now.reader) (g.S.LineSource.left c.args.source.now) c.requires.held ∙ is; same_end = refl };
   pending = λ input told is disk fixed. at_start (limits_said c.args.limits) told input 0 (ahead c.args.self.now.reader (g.S.LineSource.left c.args.source.now)) (g.M.PathAccessModel.told c.args.disk.now) (g.W.ByteSink.taken c.args.sink.now) c.args.self.now.machine.live c.args.self.now.machine.views.items c.args.self.now.machine.tags (start_ahead (held_of c.args.self.now.reader) (g.S.LineSource.left c.args.source.now) c.requires.held ∙ is) disk c.requires.shown;
+  kept = λ told disk fixed. disk;
   revision = omega (arith, c.requires.revision);
   number = omega (arith, c.requires.number);
   reads = omega arith;

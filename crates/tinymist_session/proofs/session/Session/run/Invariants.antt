@@ -11,6 +11,7 @@ invariant-loop-n g l = record {
   ahead_is : (input : List ℕ) → g.S.LineSource.left l.fn.source ≡ Some input → Ahead (limits_said l.fn.limits) input l.n (ahead l.self.reader (g.S.LineSource.left l.source));
   pending : (input : List ℕ) (told : Told) → g.S.LineSource.left l.fn.source ≡ Some input → g.M.PathAccessModel.told l.fn.disk ≡ Some told → IsFixed told
       → Pending (limits_said l.fn.limits) told input l.n (ahead l.self.reader (g.S.LineSource.left l.source)) (g.M.PathAccessModel.told l.disk) (g.W.ByteSink.taken l.fn.sink) (g.W.ByteSink.taken l.sink) l.self.machine.live l.self.machine.views.items l.self.machine.tags;
+  kept : (told : Told) → g.M.PathAccessModel.told l.fn.disk ≡ Some told → IsFixed told → g.M.PathAccessModel.told l.disk ≡ Some told;
   revision : top_revision l.self.machine.live l.self.machine.views.items ≤ 2 + l.n;
   number : next_number l.self.machine.tags ≤ 3 + l.n;
   reads : g.S.LineSource.faults l.fn.source ≤ g.S.LineSource.faults l.source;

@@ -19,9 +19,9 @@ returns-in_err-reply-clause-says g c = λ told s command is shown reads.
     let p = err_from_is_err_and c.from_residual-in_err-reply.result c.from_residual-in_err-reply.ensures.1 in
     rw p.1 (0, append-nothing (g.W.ByteSink.taken c.args.sink.now) (reply_line (step s told command).reply))
 
-pub returns-in_err-line-clause-says : goal.returns-in_err-line-clause-says
-returns-in_err-line-clause-says g c = λ told s command is shown reads.
-    let p = err_from_is_err_and c.from_residual-in_err-line.result c.from_residual-in_err-line.ensures.1 in
+pub returns-in_err-put_line-clause-says : goal.returns-in_err-put_line-clause-says
+returns-in_err-put_line-clause-says g c = λ told s command is shown reads.
+    let p = err_from_is_err_and c.from_residual-in_err-put_line.result c.from_residual-in_err-put_line.ensures.1 in
     rw p.1 (0, append-nothing (g.W.ByteSink.taken c.args.sink.now) (reply_line (step s told command).reply))
 
 pub returns-then-write_all-clause-says : goal.returns-then-write_all-clause-says
@@ -29,5 +29,5 @@ returns-then-write_all-clause-says g c = λ told s command is shown reads.
     let said = some_said c.in-Some.command _ _ command (rw c.in-Some.is at c.in_ok-command.ensures) c.line.ensures reads in (
       subst (λ (x : Command). IsShown c.step.new.self.live c.step.new.self.views.items c.step.new.self.tags (step s told x).state) said (c.in_ok-reply.ensures.state told s is shown),
       c.write_all.ensures.whole c.if-write_all.true
-          ∙ ap (append_known (g.W.ByteSink.taken c.args.sink.now)) (c.deref.ensures.value ∙ c.in_ok-line.ensures ∙ ap reply_line (c.in_ok-reply.ensures.reply told s is shown) ∙ ap (λ (x : Command). reply_line (step s told x).reply) said),
+          ∙ ap (append_known (g.W.ByteSink.taken c.args.sink.now)) (c.deref.ensures.value ∙ c.in_ok-put_line.ensures ∙ ap reply_line (c.in_ok-reply.ensures.reply told s is shown) ∙ ap (λ (x : Command). reply_line (step s told x).reply) said),
     )

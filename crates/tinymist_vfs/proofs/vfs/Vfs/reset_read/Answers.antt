@@ -2,5 +2,4 @@ use Rattle.tinymist_vfs.proofs.Stood.{reset_stood}
 use Rattle.tinymist_vfs.proofs.vfs.Vfs.reset_read.Goals as goal
 
 pub returns-clause-standing : goal.returns-clause-standing
-returns-clause-standing g c = λ past s.
-    rw (← c.self.view_is) (reset_stood g.R.RootResolver.known _ past (rw (← c.self.view_is) at s) _ _ _ c.set_reset.ensures c.forget_drops.ensures c.next-self-inside.ensures)
+returns-clause-standing g c = λ past s. reset_stood g.R.RootResolver.known c.args.self.now c.renew.new.self past s c.renew.result c.renew.ensures.after

@@ -1,5 +1,0 @@
-use Rattle.ty_persist.proofs.list_map.ListMap.set.Given as goal
-
--- the counter's ledger is the blank's
-abbrev pub ghosts-set_blank : goal.ghosts-set_blank
-ghosts-set_blank g a = record { name = a.blank.name; parts = a.blank.parts }
