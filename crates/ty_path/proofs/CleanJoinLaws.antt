@@ -9,7 +9,7 @@ use Rattle.ty_path.proofs.CleanLaws.{clean_text, clean_text-is, clean_text-from,
 
 -- ---- names behind a path
 
-names_relative : (other : List ℕ) → are_clean false (parts_at 47 other) ≡ true → is_absolute other ≡ false
+pub names_relative : (other : List ℕ) → are_clean false (parts_at 47 other) ≡ true → is_absolute other ≡ false
 names_relative [] h = refl
 names_relative (b ∷ other) h =
     elim (eqb b 47) as (λ t. eqb b 47 ≡ t → are_clean false (parts_at 47 (b ∷ other)) ≡ true → t ≡ false) [

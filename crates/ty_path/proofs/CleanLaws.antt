@@ -2,13 +2,14 @@
 use Rattle.std.proofs.Common.{◌≡◌, ◌≢◌, ◌↔◌, ℕ, Bool, true, false, true≢false, cond, not, ◌&&◌, ◌||◌, eqb, List, [], ◌∷◌, ◌++◌, map, reverse, refl, sym, ap, ◌∙◌, subst, append_assoc, append-nil, bytes_eq, drop, Option, Some, None}
 use Rattle.std.specs.Prelude.{IsTrue, is_some}
 use Rattle.std.specs.Option.{option_map_or}
+use Rattle.std.specs.List.{list_all}
 use Rattle.std.proofs.lemmas.Bool.{and_parts, and_from, not-true, or_parts, eqb-true}
 use Rattle.std.proofs.lemmas.List.{map-append, reverse-append, reverse-reverse}
 use Rattle.std.proofs.lemmas.Slice.Eq.{bytes_eq-Decides}
 use Rattle.ty_model.specs.Paths.{Component, RootDir, CurDir, ParentDir, Normal, onto_first, parts_at, is_absolute, dot, dot_dot, component_of, counts, counted, counted_after_dot, components, joined, component_text, text_of, or_dot, kept_with, kept_of, cleaned, clean, is_name, MayFollow, AllMayFollow, ArePath, AreUps, AreKept}
 use Rattle.ty_model.proofs.PathLaws.{slash_free, parts-slash, parts_one, components-path, path-kept, kept-path}
 use Rattle.ty_model.proofs.Cuts.{some_parts}
-use Rattle.ty_path.specs.Clean.{are_clean, part_of}
+use Rattle.ty_path.specs.Clean.{are_clean, begins_plain, are_plain, part_of}
 use Rattle.ty_path.specs.declared.pass.Part.{Part}
 use Rattle.ty_path.specs.declared.pass.Part.TheVariants.{Empty, Dot, DotDot, Name}
 
@@ -77,6 +78,20 @@ pub onto-other : (read : List ℕ) (b : ℕ) (text : List ℕ) → eqb b 47 ≡ 
 onto-other read b text h =
     let some = some_parts 47 text in
     rw h (ap (λ ps. onto read (onto_first b ps)) some.2 ∙ ap (λ xs. xs ∷ some.1) (sym (append_assoc read (b ∷ []) some.0)) ∙ ap (onto (read ++ b ∷ [])) (sym some.2))
+
+-- ---- parts that don't begin with a dot
+
+pub plain_clean : (ups : Bool) (ps : List (List ℕ)) → list_all begins_plain ps ≡ true → are_clean ups ps ≡ true
+plain_clean ups [] h = refl
+plain_clean ups ([] ∷ ps) h = absurd (true≢false (sym h))
+plain_clean ups ((b ∷ p) ∷ ps) h =
+    let both = and_parts (not (eqb b 46)) (list_all begins_plain ps) h in
+    let other = not-true (eqb b 46) both.0 in
+    rw other (plain_clean false ps both.1)
+
+-- the parts of what is left are such, where the first one may have begun before
+abbrev pub plain_from : Bool → List ℕ → Bool
+plain_from begins text = cond begins (are_plain text) (list_all begins_plain (drop 1 (parts_at 47 text)))
 
 -- ---- the parts of a text, joined again
 

@@ -1,20 +1,32 @@
 -- The parent of a clean path is what stands before its last slash.
-use Rattle.std.proofs.Common.{◌≡◌, ◌≢◌, ℕ, ◌<◌, suc, Bool, true, false, true≢false, cond, not, ◌&&◌, eqb, ne_eqb, List, [], ◌∷◌, ◌++◌, map, length, get_or, Some, refl, sym, ap, ◌∙◌, subst, arith, bytes_eq, inl, inr}
-use Rattle.std.proofs.lemmas.Bool.{and_parts, and_from, eqb-true}
-use Rattle.std.proofs.lemmas.List.{map-append}
+use Rattle.std.proofs.Common.{◌≡◌, ◌≢◌, ℕ, ◌<◌, suc, Bool, true, false, true≢false, cond, not, ◌&&◌, eqb, ne_eqb, List, [], ◌∷◌, ◌++◌, map, length, take, drop, lit<, get_or, Some, None, refl, sym, ap, ◌∙◌, subst, arith, bytes_eq, inl, inr}
+use Rattle.std.proofs.lemmas.Bool.{and_parts, and_from, or_parts, not-true, eqb-true}
+use Rattle.std.proofs.lemmas.List.{map-append, take-append-drop}
+use Rattle.std.specs.Str.Pattern.{SplitsAroundMatch, RFindsChar}
+use Rattle.std.proofs.lemmas.Str.Pattern.{NoCharPasses-char, drop_at_char}
 use Rattle.std.proofs.lemmas.Slice.Eq.{bytes_eq-Decides}
-use Rattle.ty_model.specs.Paths.{Component, RootDir, CurDir, ParentDir, Normal, parts_at, is_absolute, dot, dot_dot, component_of, counts, counted, counted_after_dot, components, joined, text_of, or_dot, clean, parent, text_before}
+use Rattle.ty_model.specs.Paths.{Component, RootDir, CurDir, ParentDir, Normal, parts_at, is_absolute, dot, dot_dot, component_of, counts, counted, counted_after_dot, components, joined, text_of, or_dot, clean, parent, file_name, name_of, text_before}
 use Rattle.ty_model.proofs.PathLaws.{slash_free, parts-slash, parts_one}
 use Rattle.ty_path.specs.Clean.{are_clean}
+use Rattle.ty_path.specs.Parts.{IsCut}
 use Rattle.ty_path.proofs.CleanLaws.{clean_text-from, counted-clean, after_dot-clean, texts_again, text_of-parts, joined-parts, relative_clean, absolute_clean}
 use Rattle.ty_path.proofs.CleanJoinLaws.{kinds}
-use Rattle.ty_path.proofs.PartLaws.{parent-last}
+use Rattle.ty_path.proofs.PartLaws.{parent-last, file_name-last}
 
 -- ---- a text without a slash
 
 pub free_from : (text : List ℕ) → ((i : ℕ) → i < length text → get_or text i 0 ≢ 47) → slash_free text ≡ true
 free_from [] h = refl
 free_from (b ∷ bs) h = and_from (not (eqb b 47)) (slash_free bs) (ap not (ne_eqb b 47 (h 0 (omega arith)))) (free_from bs (λ i l. h (suc i) (omega arith)))
+
+-- the front and the back of a text round its last slash
+pub cut : (path front back : List ℕ) → SplitsAroundMatch (RFindsChar 47) path front back → path ≡ front ++ 47 ∷ back
+cut path front back cases =
+    sym (take-append-drop cases.0 path) ∙ ap (λ t. take cases.0 path ++ t) (drop_at_char 47 path cases.0 cases.1 cases.2.1 (lit< tt))
+    ∙ ap (λ t. t ++ 47 ∷ drop cases.1 path) (sym cases.3) ∙ ap (λ t. front ++ 47 ∷ t) (sym cases.4)
+
+pub free_behind : (path front back : List ℕ) → SplitsAroundMatch (RFindsChar 47) path front back → slash_free back ≡ true
+free_behind path front back cases = free_from back (subst (λ t. (i : ℕ) → i < length t → get_or t i 0 ≢ 47) (sym cases.4) (λ i l. NoCharPasses-char 47 (drop cases.1 path) i cases.2.0 (lit< tt) l))
 
 -- ---- clean parts
 
@@ -144,3 +156,85 @@ slash_first_name path (c ∷ a) back e k free none some = let long = eqb-true (l
 slash_first_name path [] [] e k free none some = absurd (true≢false some)
 slash_first_name path [] (x ∷ b) e k free none some =
     subst (λ p. IsBefore p (47 ∷ [])) (sym e) (slash_first x b (subst (λ p. clean p ≡ p) e k) free)
+
+-- ---- the name behind the last slash
+
+pub last_counts : (ps : List (List ℕ)) (b : List ℕ) → are_clean false (ps ++ b ∷ []) ≡ true → (bytes_eq b dot_dot ≡ false) × (counts b ≡ true)
+last_counts [] b h =
+    elim (bytes_eq b dot_dot) as (λ t. cond t (false && true) (counts b && true) ≡ true → (t ≡ false) × (counts b ≡ true)) [
+      | true ↦ λ h. absurd (true≢false (sym h))
+      | false ↦ λ h. (refl, (and_parts (counts b) true h).0)
+    ] h
+last_counts (p ∷ ps) b h =
+    elim (bytes_eq p dot_dot) as (λ t. cond t (false && are_clean true (ps ++ b ∷ [])) (counts p && are_clean false (ps ++ b ∷ [])) ≡ true → (bytes_eq b dot_dot ≡ false) × (counts b ≡ true)) [
+      | true ↦ λ h. absurd (true≢false (sym h))
+      | false ↦ λ h. last_counts ps b (and_parts (counts p) (are_clean false (ps ++ b ∷ [])) h).1
+    ] h
+
+pub is_normal : (b : List ℕ) → bytes_eq b dot_dot ≡ false → counts b ≡ true → component_of b ≡ Normal b
+is_normal b no_up some =
+    let plain = (or_parts (bytes_eq b []) (bytes_eq b dot) (not-true _ some)).1 in
+    rw (plain, no_up)
+
+name_absolute : (a b : List ℕ) → slash_free b ≡ true → are_clean false (parts_at 47 (a ++ 47 ∷ b)) ≡ true → file_name (47 ∷ (a ++ 47 ∷ b)) ≡ Some b
+name_absolute a b free h =
+    let last = last_counts (parts_at 47 a) b (clean_round false a b free h) in
+    file_name-last (47 ∷ (a ++ 47 ∷ b)) (RootDir ∷ map component_of (parts_at 47 a)) (component_of b) (ap (λ cs. RootDir ∷ cs) (counted_round false a b free h))
+    ∙ ap name_of (is_normal b last.0 last.1)
+
+name_top : (b : List ℕ) → slash_free b ≡ true → are_clean false (parts_at 47 b) ≡ true → file_name (47 ∷ b) ≡ Some b
+name_top b free h =
+    let one = parts_one b free in
+    let last = last_counts [] b (subst (λ ps. are_clean false ps ≡ true) one h) in
+    file_name-last (47 ∷ b) (RootDir ∷ []) (component_of b) (ap (λ cs. RootDir ∷ cs) (counted-clean false (parts_at 47 b) h ∙ ap (map component_of) one))
+    ∙ ap name_of (is_normal b last.0 last.1)
+
+name_behind : (c : ℕ) (a b : List ℕ) → clean ((c ∷ a) ++ 47 ∷ b) ≡ (c ∷ a) ++ 47 ∷ b → is_absolute ((c ∷ a) ++ 47 ∷ b) ≡ true → slash_free b ≡ true → file_name ((c ∷ a) ++ 47 ∷ b) ≡ Some b
+name_behind c a b k root free =
+    let path = (c ∷ a) ++ 47 ∷ b in
+    elim (kinds path (clean_text-from path k) (no_dot (c ∷ a) b)) [
+      | inl alone ↦ let e = behind a b [] c alone in absurd (none a (e.1))
+      | inr (inl more) ↦
+          let e = behind a b more.0 c more.1 in
+          subst (λ (x : ℕ). file_name ((x ∷ a) ++ 47 ∷ b) ≡ Some b) (sym e.0) (name_absolute a b free (ap (λ t. are_clean false (parts_at 47 t)) e.1 ∙ more.2))
+      | inr (inr relative) ↦ absurd (true≢false (sym root ∙ relative.0))
+    ]
+  where
+    none : (a : List ℕ) → a ++ 47 ∷ b ≡ [] → ⊥
+    none [] e = cc
+    none (x ∷ a) e = cc
+
+name_first : (x : ℕ) (b : List ℕ) → clean (47 ∷ x ∷ b) ≡ 47 ∷ x ∷ b → slash_free (x ∷ b) ≡ true → file_name (47 ∷ x ∷ b) ≡ Some (x ∷ b)
+name_first x b k free =
+    elim (kinds (47 ∷ x ∷ b) (clean_text-from (47 ∷ x ∷ b) k) (no_dot [] (x ∷ b))) [
+      | inl root ↦ absurd (cc)
+      | inr (inl more) ↦ let same : x ∷ b ≡ more.0 = cc in name_top (x ∷ b) free (ap (λ t. are_clean false (parts_at 47 t)) same ∙ more.2)
+      | inr (inr relative) ↦ absurd (true≢false relative.0)
+    ]
+
+-- an absolute clean path is cut at its last slash
+pub cut_behind : (path front back : List ℕ) → path ≡ front ++ 47 ∷ back → clean path ≡ path → is_absolute path ≡ true → slash_free back ≡ true → eqb (length front) 0 ≡ false → IsCut path front back
+cut_behind path [] back e k root free some = absurd (true≢false some)
+cut_behind path (c ∷ a) back e k root free some =
+    let clean_too = subst (λ p. clean p ≡ p) e k in
+    let before = slash_behind c a back clean_too free in
+    subst (λ p. IsCut p (c ∷ a) back) (sym e) (before.0, name_behind c a back clean_too (subst (λ p. is_absolute p ≡ true) e root) free, before.1)
+
+pub cut_first : (path front back : List ℕ) → path ≡ front ++ 47 ∷ back → clean path ≡ path → slash_free back ≡ true → eqb (length front) 0 ≡ true → eqb (length back) 0 ≡ false → IsCut path (47 ∷ []) back
+cut_first path (c ∷ a) back e k free none some = let long = eqb-true (length (c ∷ a)) 0 none in absurd (omega arith)
+cut_first path [] [] e k free none some = absurd (true≢false some)
+cut_first path [] (x ∷ b) e k free none some =
+    let clean_too = subst (λ p. clean p ≡ p) e k in
+    let before = slash_first x b clean_too free in
+    subst (λ p. IsCut p (47 ∷ []) (x ∷ b)) (sym e) (before.0, name_first x b clean_too free, refl)
+
+-- the root has no folder
+pub cut_none : (path front back : List ℕ) → path ≡ front ++ 47 ∷ back → eqb (length front) 0 ≡ true → eqb (length back) 0 ≡ true → parent path ≡ None
+cut_none path [] [] e none nothing = ap parent e
+cut_none path (c ∷ a) back e none nothing = let long = eqb-true (length (c ∷ a)) 0 none in absurd (omega arith)
+cut_none path [] (x ∷ b) e none nothing = let long = eqb-true (length (x ∷ b)) 0 nothing in absurd (omega arith)
+
+-- an absolute path has a slash
+pub some_slash : (path : List ℕ) → is_absolute path ≡ true → slash_free path ≡ true → ⊥
+some_slash [] root free = true≢false (sym root)
+some_slash (b ∷ bs) root free = true≢false (sym root ∙ not-true (eqb b 47) (and_parts (not (eqb b 47)) (slash_free bs) free).0)

@@ -1,11 +1,11 @@
 -- A path's components as the library's iterator gives them, and as they stand in a text that is being made.
-use Rattle.std.specs.Prelude.{◌≡◌, ℕ, Bool, true, false, List, [], ◌∷◌, map, reverse, if◌then◌else◌}
+use Rattle.std.specs.Prelude.{◌≡◌, ℕ, Bool, true, false, List, [], ◌∷◌, map, reverse, Some, if◌then◌else◌}
 use Rattle.std.specs.Str.{bytes_eq}
 use Rattle.std.specs.Path.{components_remaining}
 use Rattle.std.specs.declared.path.components.Components.{Components}
 use Rattle.std.specs.declared.path.components.Component as item
 use Rattle.std.specs.declared.path.components.Component.TheVariants as item_of
-use Rattle.ty_model.specs.Paths.{Component, RootDir, CurDir, ParentDir, Normal, component_of, components, slashes, AreKept}
+use Rattle.ty_model.specs.Paths.{Component, RootDir, CurDir, ParentDir, Normal, component_of, components, slashes, AreKept, clean, parent, file_name}
 
 -- the component that an item of the iterator is
 abbrev pub plain_component : item.Component → Component
@@ -36,3 +36,7 @@ without_name kept = kept
 pub record IsOpen (text : List ℕ) : Type 0 where
   pub written : text ≡ slashes (components text)
   pub kept : AreKept (reverse (components text))
+
+-- a path as its folder, which is clean, and its last name
+abbrev pub IsCut : List ℕ → List ℕ → List ℕ → Type 0
+IsCut path folder name = (parent path ≡ Some folder) × (file_name path ≡ Some name) × (clean folder ≡ folder)

@@ -65,7 +65,8 @@ impl CleanPath {
 
     /// The path as a text.
     pub fn as_str(&self) -> &str
-        ensures { result.now ≡ self.now }
+        ensures text { result.now ≡ self.now }
+        ensures clean { plain.clean result.now ≡ result.now }
     {
         self.text.as_str()
     }

@@ -1,7 +1,8 @@
 //! The parts of a path: whether it begins at the root, its parent and its last name.
-ghost use Rattle.std.specs.Prelude.{◌≡◌, IfOk, IfSome, option_map, string_bytes};
+ghost use Rattle.std.specs.Prelude.{◌≡◌, IfOk, IfSome, IfNone, None, true, option_map, string_bytes};
 ghost use Rattle.std.specs.Option.{option_copied};
 ghost use Rattle.ty_model.specs.Paths as plain;
+ghost use Rattle.ty_path.specs.Parts.{IsCut};
 
 use crate::memory::OutOfMemory;
 use crate::pass::is_clean;
@@ -56,6 +57,25 @@ pub(crate) fn before_last(path: &str) -> Option<&str>
         Some(front)
     } else if !name.is_empty() {
         Some("/")
+    } else {
+        None
+    }
+}
+
+/// An absolute clean path as its folder, which is clean too, and its last name. The root has neither.
+pub fn folder_and_name(path: &str) -> Option<(&str, &str)>
+    requires clean { plain.clean path.now ≡ path.now }
+    requires absolute { plain.is_absolute path.now ≡ true }
+    ensures some { IfSome result (λ cut. IsCut path.now cut.0.now cut.1.now) }
+    ensures none { IfNone result (plain.parent path.now ≡ None) }
+{
+    let Some((front, name)) = path.rsplit_once('/') else {
+        return None;
+    };
+    if !front.is_empty() {
+        Some((front, name))
+    } else if !name.is_empty() {
+        Some(("/", name))
     } else {
         None
     }

@@ -2,7 +2,7 @@
 ghost use Rattle.std.specs.Prelude.{◌≡◌, ◌↔◌, ◌++◌, ◌∷◌, [], ℕ, List, IsTrue, false};
 ghost use Rattle.std.specs.Option.{option_map_or};
 ghost use Rattle.ty_model.specs.Paths as plain;
-ghost use Rattle.ty_path.specs.Clean.{are_clean, part_of};
+ghost use Rattle.ty_path.specs.Clean.{are_clean, are_plain, part_of};
 
 /// The part of a path that a pass stands in, as far as it was read.
 #[derive(Clone, Copy)]
@@ -61,8 +61,40 @@ pub fn is_clean(path: &str) -> bool
     }
 }
 
-/// Whether the parts of a text can end a clean path; `ups` says whether the first may be `..`.
+/// Whether the text is made of names alone, with one slash between two of them.
+pub fn are_names(text: &str) -> bool
+    ensures { result ≡ are_clean false (plain.parts_at 47 text.now) }
+{
+    has_clean_parts(text.as_bytes(), false)
+}
+
+/// Whether the parts of a text can end a clean path; `ups` says whether the first may be `..`. Only where a part is
+/// empty or begins with a dot are they looked at one by one.
 pub(crate) fn has_clean_parts(text: &[u8], ups: bool) -> bool
+    ensures { result ≡ are_clean ups (plain.parts_at 47 text.now) }
+{
+    if has_plain_parts(text) {
+        return true;
+    }
+    reads_clean(text, ups)
+}
+
+/// Whether no part is empty or begins with a dot, in one pass without branches.
+fn has_plain_parts(text: &[u8]) -> bool
+    ensures { result ≡ are_plain text.now }
+{
+    let mut plain = true;
+    let mut begins = true;
+    for byte in text {
+        let slash = *byte == b'/';
+        plain = plain & !(begins & (slash | (*byte == b'.')));
+        begins = slash;
+    }
+    plain & !begins
+}
+
+/// The same as `has_clean_parts`, part by part.
+fn reads_clean(text: &[u8], ups: bool) -> bool
     ensures { result ≡ are_clean ups (plain.parts_at 47 text.now) }
 {
     let mut part = Part::Empty;

@@ -1,13 +1,17 @@
 -- Paths below a root: the way down to a path, and a path by its way down.
-use Rattle.std.proofs.Common.{◌≡◌, ℕ, true, false, cond, not, ◌&&◌, eqb, true≢false, List, [], ◌∷◌, ◌++◌, map, filter, reverse, refl, sym, ap, ◌∙◌, subst, append_assoc, append-nil, bytes_eq, Option, Some, None, Ok}
+use Rattle.std.proofs.Common.{◌≡◌, ℕ, zero, suc, true, false, cond, not, ◌&&◌, eqb, true≢false, List, [], ◌∷◌, ◌++◌, map, filter, reverse, refl, sym, ap, ◌∙◌, subst, append_assoc, append-nil, bytes_eq, Option, Some, None, Ok}
 use Rattle.std.specs.Prelude.{IsTrue, IsSome}
 use Rattle.std.specs.List.{list_any}
 use Rattle.std.proofs.lemmas.Bool.{and_parts, and_from, both_ways, eqb-true}
 use Rattle.std.proofs.lemmas.List.{reverse-append, reverse-reverse}
 use Rattle.std.proofs.lemmas.Slice.Eq.{bytes_eq-Decides}
-use Rattle.ty_model.specs.Paths.{Component, RootDir, CurDir, ParentDir, Normal, parts_at, dot, component_of, counts, counted, counted_after_dot, is_absolute, ends_in_slash, components, text_of, or_dot, is_up, kept_of, cleaned, clean, same_component, after_front, join, apart, way, diff, without_dots, is_name, AllMayFollow, ArePath, AreUps, AreKept, realize}
+use Rattle.ty_model.specs.Paths.{Component, RootDir, CurDir, ParentDir, Normal, parts_at, dot, component_of, counts, counted, counted_after_dot, is_absolute, ends_in_slash, components, text_of, or_dot, is_up, kept_of, cleaned, clean, same_component, after_front, join, apart, way, diff, without_dots, is_name, AllMayFollow, ArePath, AreUps, AreKept, realize, climbs_from, escapes, has_nul, without_slash, virtual_path, dot_dot}
 use Rattle.ty_model.proofs.PathLaws.{parts-slash, components-slash, components-path, components-text_of, path-kept, kept_again, cleaned-path, text_some, ArePath-from_follows, kept_of-append, clean-clean}
 use Rattle.ty_model.proofs.Cuts.{some_parts}
+use Rattle.ty_path.specs.Clean.{are_clean}
+use Rattle.ty_path.proofs.CleanLaws.{counted-clean, after_dot-clean, absolute_clean}
+use Rattle.ty_path.proofs.CleanJoinLaws.{names_relative}
+use Rattle.ty_path.proofs.ParentLaws.{is_normal}
 use Rattle.ty_path.proofs.RelativeLaws.{same-true, cleaned_text, cleaned_to_nothing, absolute-cleaned, relative-cleaned, left_follows, way-path}
 use Rattle.ty_syntax.specs.Below.{leads_down, only_down, way_down, IsBelow, is_virtual, way_as_text}
 
@@ -423,6 +427,52 @@ virtual-clean text =
     let root = absolute-cleaned (47 ∷ text) refl in
     let again = (bytes_eq-Decides (clean (clean (47 ∷ text))) (clean (47 ∷ text))).1 (clean-clean (47 ∷ text)) in
     and_from (is_absolute (clean (47 ∷ text))) (bytes_eq (clean (clean (47 ∷ text))) (clean (47 ∷ text))) (ap (λ cs. is_absolute (or_dot (text_of cs))) root.1) again
+
+-- ---- a text of names
+
+climbs-normal : (depth : ℕ) (name : List ℕ) (cs : List Component) → climbs_from depth (Normal name ∷ cs) ≡ climbs_from (suc depth) cs
+climbs-normal zero name cs = refl
+climbs-normal (suc depth) name cs = refl
+
+climbs-names : (ps : List (List ℕ)) (depth : ℕ) → are_clean false ps ≡ true → climbs_from depth (map component_of ps) ≡ false
+climbs-names [] zero h = refl
+climbs-names [] (suc depth) h = refl
+climbs-names (p ∷ ps) depth h =
+    elim (bytes_eq p dot_dot) as (λ t. bytes_eq p dot_dot ≡ t → cond t (false && are_clean true ps) (counts p && are_clean false ps) ≡ true → climbs_from depth (component_of p ∷ map component_of ps) ≡ false) [
+      | true ↦ λ _ h. absurd (true≢false (sym h))
+      | false ↦ λ no_up h.
+          let both = and_parts (counts p) (are_clean false ps) h in
+          ap (λ c. climbs_from depth (c ∷ map component_of ps)) (is_normal p no_up both.0) ∙ climbs-normal depth p (map component_of ps) ∙ climbs-names ps (suc depth) both.1
+    ] refl h
+
+-- it stays as it is behind the root, whether it begins with a slash or not
+abbrev pub IsStored : List ℕ → List ℕ → Type 0
+IsStored text names = (escapes text ≡ false) × (clean (47 ∷ text) ≡ 47 ∷ names)
+
+stored-rooted : (names : List ℕ) → are_clean false (parts_at 47 names) ≡ true → IsStored (47 ∷ names) names
+stored-rooted names h =
+    (ap (climbs_from 0) (counted-clean false (parts_at 47 names) h) ∙ climbs-names (parts_at 47 names) 0 h, absolute_clean names h)
+
+stored-bare : (names : List ℕ) → are_clean false (parts_at 47 names) ≡ true → IsStored names names
+stored-bare names h =
+    let are : components names ≡ map component_of (parts_at 47 names) =
+    ap (λ t. cond t (RootDir ∷ counted (parts_at 47 names)) (counted_after_dot (parts_at 47 names))) (names_relative names h)
+    ∙ after_dot-clean false (parts_at 47 names) h ∙ counted-clean false (parts_at 47 names) h in
+    (ap (climbs_from 0) are ∙ climbs-names (parts_at 47 names) 0 h, absolute_clean names h)
+
+stored-names : (text : List ℕ) → are_clean false (parts_at 47 (without_slash text)) ≡ true → IsStored text (without_slash text)
+stored-names [] h = absurd (true≢false (sym h))
+stored-names (b ∷ bs) h =
+    elim (eqb b 47) as (λ t. eqb b 47 ≡ t → are_clean false (parts_at 47 (cond t bs (b ∷ bs))) ≡ true → IsStored (b ∷ bs) (cond t bs (b ∷ bs))) [
+      | true ↦ λ is h. subst (λ (x : ℕ). IsStored (x ∷ bs) bs) (sym (eqb-true b 47 is)) (stored-rooted bs h)
+      | false ↦ λ _ h. stored-bare (b ∷ bs) h
+    ] refl h
+
+pub names-virtual : (text : List ℕ) → are_clean false (parts_at 47 (without_slash text)) ≡ true → is_virtual (47 ∷ without_slash text) ≡ true
+names-virtual text h = subst (λ t. is_virtual t ≡ true) (stored-names text h).1 (virtual-clean text)
+
+pub names-path_of : (text : List ℕ) → has_nul text ≡ false → are_clean false (parts_at 47 (without_slash text)) ≡ true → virtual_path text ≡ Ok (47 ∷ without_slash text)
+names-path_of text no_nul h = let are = stored-names text h in rw (no_nul, are.0) (ap Ok are.1)
 
 pub leads-first : (c : Component) (cs : List Component) → leads_down (c ∷ cs) ≡ leads_down (c ∷ [])
 leads-first RootDir cs = refl

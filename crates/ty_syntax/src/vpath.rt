@@ -14,7 +14,7 @@ use std::marker::Model;
 use std::path::{Component, Path};
 use std::sync::Arc;
 use thiserror::Error;
-use ty_path::{ImmutStr, OutOfMemory, Share, clean, clean_join, diff, is_absolute, is_clean};
+use ty_path::{ImmutStr, OutOfMemory, Share, are_names, clean, clean_join, diff};
 
 /// Why a text is no virtual path.
 #[derive(Clone, Copy, Debug, PartialEq, Eq, Error)]
@@ -60,8 +60,8 @@ impl Model for VirtualPath {
 }
 
 impl VirtualPath {
-    /// The text below the root, cleaned. A slash at its front changes nothing, and a text that is clean behind its
-    /// slash is copied as it is.
+    /// The text below the root, cleaned. A slash at its front changes nothing. A text that is made of names alone
+    /// behind its slash is copied as it is.
     ///
     /// # Errors
     ///
@@ -73,10 +73,15 @@ impl VirtualPath {
         if has_nul(text) {
             return Err(PathFault::BadByte);
         }
+        let names = without_slash(text);
+        if are_names(names) {
+            return Ok(VirtualPath::of_text(alloc, after(alloc, "", names)?)?);
+        }
         if escapes(text) {
             return Err(PathFault::Escapes);
         }
-        let text = stored(alloc, text)?;
+        let rooted = after(alloc, "", text)?;
+        let text = clean(alloc, rooted.as_str())?;
         Ok(VirtualPath::of_text(alloc, text)?)
     }
 
@@ -147,10 +152,7 @@ impl VirtualPath {
     pub fn get_without_slash(&self) -> &str
         ensures { result.now ≡ plain.without_slash self.now }
     {
-        match self.text.as_str().strip_prefix('/') {
-            Some(rest) => rest,
-            None => self.text.as_str(),
-        }
+        without_slash(self.text.as_str())
     }
 }
 
@@ -172,15 +174,14 @@ fn has_nul(text: &str) -> bool
     text.as_bytes().contains(&0)
 }
 
-/// The text behind a slash, cleaned.
-fn stored(alloc: Global, text: &str) -> Result<String, OutOfMemory>
-    ensures { IfOk result (λ stored. string_bytes stored ≡ plain.clean (47 ∷ text.now)) }
+/// The text after its first slash, where it begins with one.
+fn without_slash(text: &str) -> &str
+    ensures { result.now ≡ plain.without_slash text.now }
 {
-    if is_absolute(text) && is_clean(text) {
-        return Ok(String::from_str(alloc, text)?);
+    match text.strip_prefix('/') {
+        Some(rest) => rest,
+        None => text,
     }
-    let rooted = after(alloc, "", text)?;
-    clean(alloc, rooted.as_str())
 }
 
 /// Whether some front of the text goes up more often than down.
@@ -241,5 +242,9 @@ fn is_name(component: Component<'_>) -> bool
 fn after(alloc: Global, path: &str, text: &str) -> Result<String, OutOfMemory>
     ensures { IfOk result (λ whole. string_bytes whole ≡ path.now ++ 47 ∷ text.now) }
 {
-    Ok(format!(in alloc; "{path}/{text}")?)
+    let mut whole = String::with_capacity(alloc, path.len() + 1 + text.len())?;
+    whole.push_str(path)?;
+    whole.push('/')?;
+    whole.push_str(text)?;
+    Ok(whole)
 }

@@ -1,9 +1,9 @@
 //! Ids of files in workspaces.
-ghost use Rattle.std.specs.Prelude.{◌≡◌, ◌+◌, ◌-◌, ◌^◌, ◌↔◌, IfOk, OnErr, IsErr, IsErrOf, None, Some};
+ghost use Rattle.std.specs.Prelude.{◌≡◌, ◌+◌, ◌-◌, ◌^◌, ◌↔◌, IfOk, OnErr, IsErr, IsErrOf, None, Some, true, string_bytes};
 ghost use Rattle.std.specs.Option.{option_copied};
 ghost use Rattle.ty_path.specs.Shared.{path_text};
-ghost use Rattle.ty_model.specs.Paths.{clean};
-ghost use Rattle.ty_model.specs.Places.{id_by_parent, interned};
+ghost use Rattle.ty_model.specs.Paths.{clean, is_absolute, parent, file_name};
+ghost use Rattle.ty_model.specs.Places.{id_by_parent, id_below, interned};
 ghost use Rattle.ty_model.specs.Values.{Project, Workspace};
 ghost use Rattle.ty_syntax.specs.Id.{root_of, tagged};
 ghost use Rattle.tinymist_vfs.specs.Workspace.{untitled_in};
@@ -12,7 +12,10 @@ use crate::ids::display::Resolving;
 use crate::ids::resolver::{names_workspace, shared_text};
 use std::alloc::Global;
 use std::sync::Arc;
-use ty_path::{ImmutPath, OutOfMemory, clean, file_name, is_absolute, parent};
+use ty_path::{
+    CleanPath, ImmutPath, OutOfMemory, clean, file_name, folder_and_name, is_absolute, is_clean,
+    parent,
+};
 use ty_syntax::{
     FileError, FileFault, FileId, FileResult, PathFault, Root, TagFault, Tags, VirtualPath,
 };
@@ -107,17 +110,27 @@ impl WorkspaceResolver {
         if !is_absolute(path) {
             return Ok(None);
         }
+        if is_clean(path) {
+            return cut_file(alloc, path);
+        }
         let Some(root) = parent(alloc, path)? else {
             return Ok(None);
         };
-        let Some(name) = file_name(alloc, path)? else {
-            return Ok(None);
-        };
-        match VirtualPath::new(alloc, name.as_str()) {
-            Ok(vpath) => Ok(Some(FileId::intern(alloc, Root::Workspace(root), vpath)?)),
-            Err(PathFault::OutOfMemory) => Err(OutOfMemory),
-            Err(_) => Ok(None),
+        match file_name(alloc, path)? {
+            Some(name) => file_below(alloc, root, name.as_str()),
+            None => Ok(None),
         }
+    }
+
+    /// As `file_with_parent_root`, of a path that is clean by its type.
+    pub fn file_of(alloc: Global, path: &CleanPath) -> Result<Option<FileId>, OutOfMemory>
+        ensures { IfOk result (λ id. id ≡ id_by_parent path.now) }
+    {
+        let text = path.as_str();
+        if !is_absolute(text) {
+            return Ok(None);
+        }
+        cut_file(alloc, text)
     }
 
     /// The id of a file in a workspace, or an id of no workspace with a fresh tag.
@@ -206,5 +219,28 @@ fn untitled_root(alloc: Global, root: Option<&str>) -> Result<Root, OutOfMemory>
     match root {
         Some(root) => Ok(Root::UntitledRooted(String::from_str(alloc, root)?)),
         None => Ok(Root::Project),
+    }
+}
+
+/// The id of an absolute clean path, which is cut at its last slash.
+fn cut_file(alloc: Global, path: &str) -> Result<Option<FileId>, OutOfMemory>
+    requires clean { clean path.now ≡ path.now }
+    requires absolute { is_absolute path.now ≡ true }
+    ensures { IfOk result (λ id. id ≡ id_below (parent path.now) (file_name path.now)) }
+{
+    match folder_and_name(path) {
+        Some((folder, name)) => file_below(alloc, String::from_str(alloc, folder)?, name),
+        None => Ok(None),
+    }
+}
+
+/// The id of a file name in a folder.
+fn file_below(alloc: Global, root: String, name: &str) -> Result<Option<FileId>, OutOfMemory>
+    ensures { IfOk result (λ id. id ≡ id_below (Some (string_bytes root)) (Some name.now)) }
+{
+    match VirtualPath::new(alloc, name) {
+        Ok(vpath) => Ok(Some(FileId::intern(alloc, Root::Workspace(root), vpath)?)),
+        Err(PathFault::OutOfMemory) => Err(OutOfMemory),
+        Err(_) => Ok(None),
     }
 }

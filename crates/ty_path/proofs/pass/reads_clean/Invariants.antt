@@ -3,7 +3,7 @@ use Rattle.std.proofs.Common.{◌≡◌, ℕ, List, drop}
 use Rattle.ty_model.specs.Paths.{parts_at}
 use Rattle.ty_path.specs.Clean.{are_clean, part_of}
 use Rattle.ty_path.proofs.CleanLaws.{onto}
-use Rattle.ty_path.proofs.pass.has_clean_parts.Given as goal
+use Rattle.ty_path.proofs.pass.reads_clean.Given as goal
 
 abbrev pub invariant-loop-byte : goal.invariant-loop-byte
 invariant-loop-byte l =
