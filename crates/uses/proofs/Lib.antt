@@ -1,0 +1,4 @@
+mod Edited
+mod Listed
+mod Said
+mod OneFiles
