@@ -7,9 +7,6 @@ use Rattle.ty_model.specs.Version as model
 use Rattle.ty_model.specs.Batch.{Item, MapPath, UnmapPath, MapId, UnmapId, Clear, ChangeSet, applied, staged, rises, commit, is_view}
 use Rattle.ty_model.specs.Space as model_space
 use Rattle.ty_model.specs.Space.{after_commit}
-use Rattle.tinymist_session.specs.Said.{edit_said}
-use Rattle.tinymist_session.specs.declared.edit.Edit.{Edit}
-use Rattle.tinymist_session.specs.declared.edit.Edit.TheVariants as edit
 use Rattle.tinymist_plain.specs.Lists.{without, without_id, put_all, without_all}
 use Rattle.tinymist_plain.specs.Kept.{Lists, Listed, lists_of, listed, layers_of, version_of, same_lists, stamped, space_of, part_of}
 use Rattle.tinymist_plain.specs.declared.space.Space.{Space}
@@ -67,34 +64,26 @@ pub latest_is : (p : Space) (s : model_space.Space) → space_of p ≡ part_of s
 unfolding last_of
 latest_is p s is = ap (λ (k : ℕ × List Listed). last_of (listed s.now) k.1) is
 
-pub no_view : (e : Edit) → is_view (edit_said e) ≡ false
-no_view (edit.MapPath path answer) = refl
-no_view (edit.UnmapPath path) = refl
-no_view (edit.MapId id answer) = refl
-no_view (edit.UnmapId id) = refl
-no_view edit.Clear = refl
-no_view (edit.Notify changes) = refl
-
 -- the next version after an edit
 abbrev pub raised : ℕ → model.Version → Item → model.Version
 raised number v item = record v { layers = staged number v.revision v.layers (item ∷ []); revision = v.revision + 1 }
 
-module _ (number : ℕ) (v : model.Version) (l : Listed) (is : l ≡ listed v) (item : Item) (plain : is_view item ≡ false) (edited : Lists) (by : edited ≡ lists_of (staged number v.revision v.layers (item ∷ []))) where
-  pub rises_by : rises number v.revision v.layers (item ∷ []) ≡ not (same_lists l.layers edited)
-  rises_by = (λ j. not (same_lists (sym is j).layers (sym by j)) || (plain j || false)) ∙ plainly (same_lists l.layers edited)
+module _ (number : ℕ) (v : model.Version) (l : Listed) (is : l ≡ listed v) (item : Item) (view : Bool) (views : is_view item ≡ view) (edited : Lists) (by : edited ≡ lists_of (staged number v.revision v.layers (item ∷ []))) where
+  pub rises_by : rises number v.revision v.layers (item ∷ []) ≡ (not (same_lists l.layers edited) || view)
+  rises_by = (λ j. not (same_lists (sym is j).layers (sym by j)) || (views j || false)) ∙ ap (λ b. not (same_lists l.layers edited) || b) (plainly view)
     where
-      plainly : (b : Bool) → (not b || false) ≡ not b
+      plainly : (b : Bool) → (b || false) ≡ b
       plainly true = refl
       plainly false = refl
 
-  pub committed : listed (commit number v (item ∷ [])) ≡ cond (same_lists l.layers edited) l (record { revision = l.revision + 1; layers = edited; reset = l.reset; resolver = l.resolver })
+  pub committed : listed (commit number v (item ∷ [])) ≡ cond (not (same_lists l.layers edited) || view) (record { revision = l.revision + 1; layers = edited; reset = l.reset; resolver = l.resolver }) l
   committed =
       ap (λ b. listed (cond b (raised number v item) v)) rises_by
-      ∙ turned (same_lists l.layers edited)
+      ∙ turned (not (same_lists l.layers edited) || view)
     where
-      turned : (b : Bool) → listed (cond (not b) (raised number v item) v) ≡ cond b l (record { revision = l.revision + 1; layers = edited; reset = l.reset; resolver = l.resolver })
-      turned true = sym is
-      turned false = λ j. record { revision = (sym is j).revision + 1; layers = sym by j; reset = (sym is j).reset; resolver = (sym is j).resolver }
+      turned : (b : Bool) → listed (cond b (raised number v item) v) ≡ cond b (record { revision = l.revision + 1; layers = edited; reset = l.reset; resolver = l.resolver }) l
+      turned false = sym is
+      turned true = λ j. record { revision = (sym is j).revision + 1; layers = sym by j; reset = (sym is j).reset; resolver = (sym is j).resolver }
 
 module _ (p : Space) (s : model_space.Space) (is : space_of p ≡ part_of s) where
   pub layers_are : layers_of p.latest ≡ lists_of s.now.layers
@@ -103,17 +92,17 @@ module _ (p : Space) (s : model_space.Space) (is : space_of p ≡ part_of s) whe
   pub stamps_are : ◌≡◌ {A = model.Stamp} (record { space = p.number; revision = p.latest.revision + 1 }) (record { space = s.number; revision = s.now.revision + 1 })
   stamps_are = λ j. record { space = (is j).0; revision = (latest_is p s is j).revision + 1 }
 
-  module _ (item : Item) (plain : is_view item ≡ false) (edited : Lists) (by : edited ≡ lists_of (staged s.number s.now.revision s.now.layers (item ∷ []))) where
+  module _ (item : Item) (view : Bool) (views : is_view item ≡ view) (edited : Lists) (by : edited ≡ lists_of (staged s.number s.now.revision s.now.layers (item ∷ []))) where
     abbrev after : Bool → ℕ × List Listed
     after b = (s.number, listed (cond b (raised s.number s.now item) s.now) ∷ map listed (cond b (s.now ∷ s.past) s.past))
 
-    risen : rises s.number s.now.revision s.now.layers (item ∷ []) ≡ not (same_lists (layers_of p.latest) edited)
-    risen = rises_by s.number s.now (version_of p.latest) (latest_is p s is) item plain edited by
+    risen : rises s.number s.now.revision s.now.layers (item ∷ []) ≡ (not (same_lists (layers_of p.latest) edited) || view)
+    risen = rises_by s.number s.now (version_of p.latest) (latest_is p s is) item view views edited by
 
-    pub stays : same_lists (layers_of p.latest) edited ≡ true → space_of p ≡ part_of (after_commit s (item ∷ []))
-    stays e = is ∙ sym (ap after (risen ∙ ap not e))
+    pub stays : (not (same_lists (layers_of p.latest) edited) || view) ≡ false → space_of p ≡ part_of (after_commit s (item ∷ []))
+    stays e = is ∙ sym (ap after (risen ∙ e))
 
-    pub goes_on : (reset : model.Stamp) → reset ≡ p.latest.reset → same_lists (layers_of p.latest) edited ≡ false → ◌≡◌ {A = ℕ × List Listed} (p.number, record { revision = p.latest.revision + 1; layers = edited; reset = reset; resolver = finmap.empty } ∷ (space_of p).1) (part_of (after_commit s (item ∷ [])))
+    pub goes_on : (reset : model.Stamp) → reset ≡ p.latest.reset → (not (same_lists (layers_of p.latest) edited) || view) ≡ true → ◌≡◌ {A = ℕ × List Listed} (p.number, record { revision = p.latest.revision + 1; layers = edited; reset = reset; resolver = finmap.empty } ∷ (space_of p).1) (part_of (after_commit s (item ∷ [])))
     goes_on reset kept e =
         (λ j. ((is j).0, record { revision = (latest_is p s is j).revision + 1; layers = by j; reset = (kept ∙ ap (λ (v : Listed). v.reset) (latest_is p s is)) j; resolver = (latest_is p s is j).resolver } ∷ (is j).1))
-        ∙ sym (ap after (risen ∙ ap not e))
+        ∙ sym (ap after (risen ∙ e))

@@ -1,6 +1,6 @@
 -- What the definition replies to edits that map files and to views, over a disk without files, by lists of entries, which
 -- compute where the maps of versions don't.
-use Rattle.std.proofs.Common.{◌≡◌, ℕ, ◌+◌, ◌-◌, ◌==◌, Bool, true, false, cond, not, ◌&&◌, List, [], ◌∷◌, ◌++◌, length, map, refl, sym, ap, ◌∙◌, Option, Some, None}
+use Rattle.std.proofs.Common.{◌≡◌, ℕ, ◌+◌, ◌-◌, ◌==◌, Bool, true, false, cond, not, ◌&&◌, ◌||◌, List, [], ◌∷◌, ◌++◌, length, map, refl, sym, ap, ◌∙◌, Option, Some, None}
 use Rattle.std.specs.Prelude.{codes, slice_get, ⊤}
 use Rattle.std.specs.Str.{is_utf8, chars}
 use Rattle.hex.specs.Hex.{decode_pairs, encode_with}
@@ -89,8 +89,13 @@ record Shows (n : ℕ) (live : Entries) (views : List (ℕ × Entries)) (s : Sta
 commit_is : (space n : ℕ) (live : Entries) (v : Version) (path : List ℕ) (answer : Answer) → listed v ≡ version_by n live → listed (commit space v (MapPath path answer ∷ []))
     ≡ cond (same_lists (with_paths live) (with_paths (put text_cmp path answer live))) (version_by n live) (version_by (n + 1) (put text_cmp path answer live))
 commit_is space n live v path answer is =
-    committed space v (version_by n live) (sym is) (MapPath path answer) refl (with_paths (put text_cmp path answer live))
+    committed space v (version_by n live) (sym is) (MapPath path answer) false refl (with_paths (put text_cmp path answer live))
     (mapped (with_paths live) v.layers (next_stamp space v.revision) (ap (λ (l : Listed). l.layers) (sym is)) path answer (put text_cmp path answer live) refl)
+    ∙ turned (same_lists (with_paths live) (with_paths (put text_cmp path answer live)))
+  where
+    turned : (b : Bool) → cond (not b || false) (version_by (n + 1) (put text_cmp path answer live)) (version_by n live) ≡ cond b (version_by n live) (version_by (n + 1) (put text_cmp path answer live))
+    turned true = refl
+    turned false = refl
 
 -- ---- a view
 

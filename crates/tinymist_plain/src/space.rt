@@ -1,19 +1,19 @@
 //! A space as all its versions.
-ghost use Rattle.std.specs.Prelude.{map, ◌≡◌, ◌+◌, ◌-◌, ◌^◌, ◌<◌, ◌≤◌, ◌∷◌, [], false, IfOk, OnOk};
+ghost use Rattle.std.specs.Prelude.{map, not, ◌≡◌, ◌||◌, ◌+◌, ◌-◌, ◌^◌, ◌<◌, ◌≤◌, ◌∷◌, [], IfOk, OnOk};
 ghost use Rattle.std.specs.FinMap as finmap;
 ghost use Rattle.ty_model.specs.Version.{first_version};
 ghost use Rattle.ty_model.specs.Batch as batch;
 ghost use Rattle.ty_model.specs.Batch.{staged, is_view};
 ghost use Rattle.ty_model.specs.Space as model;
 ghost use Rattle.ty_model.specs.Space.{after_commit};
-ghost use Rattle.tinymist_session.specs.Said.{edit_said};
-ghost use Rattle.tinymist_plain.specs.Kept.{layers_of, lists_of, listed, version_of, same_past, all_clean, space_of, part_of};
+ghost use Rattle.tinymist_vfs.specs.Items.{clean_item};
+ghost use Rattle.tinymist_plain.specs.Kept.{layers_of, lists_of, listed, version_of, same_lists, same_past, all_clean, space_of, part_of};
 
 use crate::stamp::Stamp;
 use crate::version::Version;
 use std::alloc::Global;
 use std::mem;
-use tinymist_session::Edit;
+use tinymist_vfs::Item;
 use ty_path::OutOfMemory;
 use ty_syntax::FileId;
 
@@ -52,33 +52,40 @@ impl Space {
         })
     }
 
-    /// Edits the last version.
-    pub(crate) fn edit(&mut self, alloc: Global, edit: &Edit) -> Result<(), OutOfMemory>
+    /// Edits the last version by an item.
+    pub(crate) fn edit(&mut self, alloc: Global, item: &Item) -> Result<(), OutOfMemory>
         requires { self.old.latest.revision < 2 ^ 64 - 1 }
-        ensures space { (s : model.Space) → space_of self.old ≡ part_of s → OnOk result (space_of self.new ≡ part_of (after_commit s (edit_said edit.now ∷ []))) }
+        ensures space { (s : model.Space) → space_of self.old ≡ part_of s → OnOk result (space_of self.new ≡ part_of (after_commit s (clean_item item.now ∷ []))) }
         ensures revision { self.new.latest.revision ≤ self.old.latest.revision + 1 }
     {
         let stamp = Stamp::new(self.number, self.latest.revision + 1);
         let mut edited = self.latest.copy(alloc)?;
-        edited.edit(alloc, edit, stamp)?;
-        self.take_in(edited)
+        edited.edit(alloc, item, stamp)?;
+        self.take_in(edited, changes_view(item))
     }
 
-    /// The version that an edit made of the last one comes after it, where something differs.
-    fn take_in(&mut self, mut edited: Version) -> Result<(), OutOfMemory>
+    /// The version that an edit made of the last one comes after it, where something differs or the view was changed.
+    fn take_in(&mut self, mut edited: Version, changes_view: bool) -> Result<(), OutOfMemory>
         requires revision { self.old.latest.revision < 2 ^ 64 - 1 }
         requires reset { edited.reset ≡ self.old.latest.reset }
-        ensures space { (s : model.Space) (item : batch.Item) → space_of self.old ≡ part_of s → is_view item ≡ false
+        ensures space { (s : model.Space) (item : batch.Item) → space_of self.old ≡ part_of s → is_view item ≡ changes_view
             → layers_of edited ≡ lists_of (staged s.number s.now.revision s.now.layers (item ∷ [])) → OnOk result (space_of self.new ≡ part_of (after_commit s (item ∷ []))) }
         ensures revision { self.new.latest.revision ≤ self.old.latest.revision + 1 }
     {
-        if self.latest.same_layers(&edited) {
+        if !self.rises(&edited, changes_view) {
             return Ok(());
         }
         edited.revision = self.latest.revision + 1;
         let before = mem::replace(&mut self.latest, edited);
         self.past.insert(0, before)?;
         Ok(())
+    }
+
+    /// Whether the revision rises by what an edit made of the last version.
+    fn rises(&self, edited: &Version, changes_view: bool) -> bool
+        ensures { result ≡ (not (same_lists (layers_of self.now.latest) (layers_of edited.now)) || changes_view) }
+    {
+        !self.latest.same_layers(edited) || changes_view
     }
 
     /// Whether ids are clean since a revision: all versions from there on have the same entries for each of them.
@@ -112,4 +119,11 @@ impl Space {
         }
         Ok(true)
     }
+}
+
+/// Whether an item is a change of view.
+fn changes_view(item: &Item) -> bool
+    ensures { result ≡ is_view (clean_item item.now) }
+{
+    matches!(item, Item::ChangeView)
 }

@@ -3,16 +3,18 @@ ghost use Rattle.std.specs.Prelude.{◌≡◌, ◌+◌, ◌-◌, ◌^◌, ◌<�
 ghost use Rattle.std.specs.Option.{option_copied, is_some};
 ghost use Rattle.ty_model.specs.Batch as batch;
 ghost use Rattle.ty_model.specs.Disk.{Told, IsFixed};
+ghost use Rattle.tinymist_vfs.specs.Items.{clean_item};
 ghost use Rattle.tinymist_session.specs.Grammar.{answer_at};
 ghost use Rattle.tinymist_session.specs.Machine as machine;
-ghost use Rattle.tinymist_session.specs.Said.{command_of, content_said, edit_said, id_said, reply_of};
+ghost use Rattle.tinymist_session.specs.Said.{command_of, content_said, id_said, reply_of};
 ghost use Rattle.tinymist_plain.specs.Kept.{IsKept, top_revision, view_kept, space_kept};
 
 use crate::content::answer_at;
 use crate::place::id_by_parent;
 use crate::space::Space;
 use std::alloc::Global;
-use tinymist_session::{Command, ContentWord, Edit, IdWord, Reply};
+use tinymist_session::{Command, ContentWord, IdWord, Reply};
+use tinymist_vfs::Item;
 use ty_cells::PathAccessModel;
 use ty_path::{OutOfMemory, Share};
 use ty_syntax::{FileId, Root, TagFault, Tags, VirtualPath, detached_entry, memory_main_entry};
@@ -66,7 +68,7 @@ impl State {
         ensures tag { self.new.next_tag ≤ self.old.next_tag + 1 }
     {
         match command {
-            Command::Edit(target, edit) => self.edit_target(alloc, *target, edit),
+            Command::Edit(target, item) => self.edit_target(alloc, *target, item),
             Command::MapId(target, word, content) => self.map_id(alloc, *target, word, content),
             Command::UnmapId(target, word) => self.unmap_id(alloc, *target, word),
             Command::Rootless(vpath) => self.make_rootless(alloc, vpath),
@@ -84,23 +86,23 @@ impl State {
     }
 
     /// Edits a target, and answers its revision.
-    fn edit_target(&mut self, alloc: Global, target: u64, edit: &Edit) -> Result<Reply, OutOfMemory>
+    fn edit_target(&mut self, alloc: Global, target: u64, item: &Item) -> Result<Reply, OutOfMemory>
         requires { top_revision self.old < 2 ^ 64 - 1 }
-        ensures reply { (s : machine.State) → IsKept self.old s → IfOk result (λ r. reply_of r ≡ (machine.edit_step s target (edit_said edit.now)).reply) }
-        ensures state { (s : machine.State) → IsKept self.old s → OnOk result (IsKept self.new (machine.edit_step s target (edit_said edit.now)).state) }
+        ensures reply { (s : machine.State) → IsKept self.old s → IfOk result (λ r. reply_of r ≡ (machine.edit_step s target (clean_item item.now)).reply) }
+        ensures state { (s : machine.State) → IsKept self.old s → OnOk result (IsKept self.new (machine.edit_step s target (clean_item item.now)).state) }
         ensures revision { top_revision self.new ≤ top_revision self.old + 1 }
         ensures space { self.new.next_space ≡ self.old.next_space }
         ensures tag { self.new.next_tag ≡ self.old.next_tag }
     {
         if target == 0 {
-            self.live.edit(alloc, edit)?;
+            self.live.edit(alloc, item)?;
             return Ok(Reply::AtRevision(self.live.latest.revision));
         }
         let k = (target - 1) as usize;
         if k >= self.views.len() {
             return Ok(Reply::BadView);
         }
-        self.views[k].edit(alloc, edit)?;
+        self.views[k].edit(alloc, item)?;
         Ok(Reply::AtRevision(self.views[k].latest.revision))
     }
 
@@ -126,7 +128,7 @@ impl State {
             return Ok(Reply::BadId);
         };
         let answer = answer_at(alloc, id.vpath().get_with_slash(), content)?;
-        self.edit_target(alloc, target, &Edit::MapId(id, answer))
+        self.edit_target(alloc, target, &Item::MapId(id, answer))
     }
 
     /// Takes an id out of a target's overlay, and answers its revision.
@@ -144,7 +146,7 @@ impl State {
         let Some(id) = self.id_of(alloc, word)? else {
             return Ok(Reply::BadId);
         };
-        self.edit_target(alloc, target, &Edit::UnmapId(id))
+        self.edit_target(alloc, target, &Item::UnmapId(id))
     }
 
     /// Makes an id of no workspace, and answers its tag.

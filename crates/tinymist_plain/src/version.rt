@@ -9,8 +9,7 @@ ghost use Rattle.ty_model.specs.Batch as batch;
 ghost use Rattle.ty_model.specs.Disk.{Told, IsFixed};
 ghost use Rattle.ty_model.specs.Standing.{same_at_path, same_entries_at};
 ghost use Rattle.ty_path.specs.Shared.{path_text};
-ghost use Rattle.tinymist_vfs.specs.Items.{file_of};
-ghost use Rattle.tinymist_session.specs.Said.{edit_said};
+ghost use Rattle.tinymist_vfs.specs.Items.{clean_item, clean_text, clean_file};
 ghost use Rattle.tinymist_session.specs.ChangeSets.{set_said};
 ghost use Rattle.tinymist_plain.specs.Lists.{pairs, id_pairs, put_all, without_all};
 ghost use Rattle.tinymist_plain.specs.Kept.{layers_of, version_of, lists_of, listed, said_at, said_in, looked, same_lists, stamped, path_entries, place_entries, id_entries};
@@ -25,9 +24,9 @@ use crate::same::{same_answer, same_stamp};
 use crate::stamp::Stamp;
 use std::alloc::Global;
 use std::sync::Arc;
-use tinymist_session::{CleanChanges, Edit};
+use tinymist_vfs::{FileChangeSet, Item};
 use ty_cells::{FileSnapshot, PathAccessModel};
-use ty_path::{ImmutPath, OutOfMemory, Share};
+use ty_path::{ImmutPath, OutOfMemory, Share, clean};
 use ty_syntax::{FileError, FileId};
 
 /// What is mapped, told and dropped, at a revision.
@@ -70,27 +69,28 @@ impl Version {
         })
     }
 
-    /// Edits it, where drops get this stamp.
+    /// Edits it by an item, where drops get this stamp.
     pub(crate) fn edit(
         &mut self,
         alloc: Global,
-        edit: &Edit,
+        item: &Item,
         stamp: Stamp,
     ) -> Result<(), OutOfMemory>
-        ensures layers { (l : model.Layers) → layers_of self.old ≡ lists_of l → OnOk result (layers_of self.new ≡ lists_of (batch.applied stamp l (edit_said edit.now))) }
+        ensures layers { (l : model.Layers) → layers_of self.old ≡ lists_of l → OnOk result (layers_of self.new ≡ lists_of (batch.applied stamp l (clean_item item.now))) }
         ensures revision { self.new.revision ≡ self.old.revision }
         ensures reset { self.new.reset ≡ self.old.reset }
     {
-        match edit {
-            Edit::MapPath(path, answer) => self.map_path(alloc, path.as_str(), answer),
-            Edit::UnmapPath(path) => self.unmap_path(alloc, path.as_str(), stamp),
-            Edit::MapId(id, answer) => self.map_id(alloc, id, answer),
-            Edit::UnmapId(id) => {
+        match item {
+            Item::MapPath(path, answer) => self.map_path(alloc, path.as_str(), answer),
+            Item::UnmapPath(path) => self.unmap_path(alloc, path.as_str(), stamp),
+            Item::MapId(id, answer) => self.map_id(alloc, id, answer),
+            Item::UnmapId(id) => {
                 self.unmap_id(id);
                 Ok(())
             }
-            Edit::Clear => self.clear(alloc, stamp),
-            Edit::Notify(changes) => self.notify(alloc, changes, stamp),
+            Item::Clear => self.clear(alloc, stamp),
+            Item::ChangeSet(changes) => self.notify(alloc, changes, stamp),
+            Item::ChangeView => Ok(()),
         }
     }
 
@@ -160,16 +160,17 @@ impl Version {
     fn notify(
         &mut self,
         alloc: Global,
-        changes: &CleanChanges,
+        changes: &FileChangeSet,
         stamp: Stamp,
     ) -> Result<(), OutOfMemory>
-        ensures layers { (l : model.Layers) → layers_of self.old ≡ lists_of l → OnOk result (layers_of self.new ≡ lists_of (batch.applied stamp l (batch.ChangeSet (set_said changes.now.set).removes (set_said changes.now.set).inserts))) }
+        ensures layers { (l : model.Layers) → layers_of self.old ≡ lists_of l → OnOk result (layers_of self.new ≡ lists_of (batch.applied stamp l (batch.ChangeSet (set_said changes.now).removes (set_said changes.now).inserts))) }
         ensures revision { self.new.revision ≡ self.old.revision }
         ensures reset { self.new.reset ≡ self.old.reset }
     {
-        remove_paths(&mut self.told, changes.removes());
-        put_files(alloc, &mut self.told, changes.inserts())?;
-        drop_paths(alloc, &mut self.drops, changes.removes(), stamp)
+        let removes = cleaned(alloc, &changes.removes)?;
+        remove_paths(&mut self.told, &removes);
+        put_files(alloc, &mut self.told, &changes.inserts)?;
+        drop_paths(alloc, &mut self.drops, &removes, stamp)
     }
 
     /// The paths at which something is mapped, ascending.
@@ -301,6 +302,17 @@ impl Version {
     }
 }
 
+/// The paths, each cleaned.
+fn cleaned(alloc: Global, paths: &[ImmutPath]) -> Result<Vec<ImmutPath>, OutOfMemory>
+    ensures { IfOk result (λ all. map path_text all.items ≡ map clean_text paths.now) }
+{
+    let mut all = Vec::with_capacity(alloc, paths.len())?;
+    for path in paths {
+        all.push(Arc::new(alloc, clean(alloc, path.as_str())?)?)?;
+    }
+    Ok(all)
+}
+
 /// Stamps paths as dropped.
 fn drop_paths(
     alloc: Global,
@@ -325,16 +337,16 @@ fn remove_paths(told: &mut Vec<Entry<FileSnapshot>>, paths: &[ImmutPath])
     }
 }
 
-/// Tells files, of which the last of a path stands.
+/// Tells files, each under its cleaned path. The last of a path stands.
 fn put_files(
     alloc: Global,
     told: &mut Vec<Entry<FileSnapshot>>,
     files: &[(ImmutPath, FileSnapshot)],
 ) -> Result<(), OutOfMemory>
-    ensures { OnOk result (pairs told.new.items ≡ put_all (pairs told.old.items) (map file_of files.now)) }
+    ensures { OnOk result (pairs told.new.items ≡ put_all (pairs told.old.items) (map clean_file files.now)) }
 {
     for (path, answer) in files {
-        let path = String::from_str(alloc, path.as_str())?;
+        let path = clean(alloc, path.as_str())?;
         put(told, path, answer.share(alloc)?)?;
     }
     Ok(())

@@ -2,7 +2,6 @@
 use Rattle.std.specs.Prelude.{◌≡◌, ℕ, ◌<◌, List, [], map, length, Option, Some, None, Result, Ok, Err, ⊤}
 use Rattle.std.specs.String.{string_bytes}
 use Rattle.std.specs.Borrow.{Bor}
-use Rattle.ty_model.specs.Batch as batch
 use Rattle.ty_model.specs.Values.{Answer, Content, Refused}
 use Rattle.ty_model.specs.Paths.{parts_at}
 use Rattle.ty_path.specs.Shared.{path_text}
@@ -10,6 +9,7 @@ use Rattle.ty_syntax.specs.Error.{refusal_of}
 use Rattle.ty_syntax.specs.Source.{Source}
 use Rattle.ty_syntax.specs.declared.error.FileFault.{FileFault}
 use Rattle.ty_syntax.specs.declared.error.FileFault.TheVariants.{File, OutOfMemory}
+use Rattle.tinymist_vfs.specs.Items.{clean_item}
 use Rattle.tinymist_session.specs.Command as plain
 use Rattle.tinymist_session.specs.Grammar.{Changes, removing, telling, joined, changes_of}
 use Rattle.tinymist_session.specs.Reply as plain_reply
@@ -17,15 +17,12 @@ use Rattle.tinymist_session.specs.Session as session
 use Rattle.tinymist_session.specs.Words as words
 use Rattle.tinymist_session.specs.declared.limits.Limits.{Limits}
 use Rattle.tinymist_session.specs.declared.limits.Options.{Options}
-use Rattle.tinymist_session.specs.ChangeSets.{set_said}
 use Rattle.tinymist_session.specs.declared.content.ContentWord.{ContentWord}
 use Rattle.tinymist_session.specs.declared.content.ContentWord.TheVariants as content
 use Rattle.tinymist_session.specs.declared.changes.Change.{Change}
 use Rattle.tinymist_session.specs.declared.changes.Change.TheVariants.{Remove, Tell}
 use Rattle.tinymist_session.specs.declared.content.IdWord.{IdWord}
 use Rattle.tinymist_session.specs.declared.content.IdWord.TheVariants as word
-use Rattle.tinymist_session.specs.declared.edit.Edit.{Edit}
-use Rattle.tinymist_session.specs.declared.edit.Edit.TheVariants as edit
 use Rattle.tinymist_session.specs.declared.command.Command.{Command}
 use Rattle.tinymist_session.specs.declared.command.Command.TheVariants as command
 use Rattle.tinymist_session.specs.declared.reply.Reply.{Reply}
@@ -47,18 +44,9 @@ abbrev pub id_said : IdWord → plain.IdWord
 id_said (word.Path path) = plain.PathWord path
 id_said (word.Tag tag) = plain.TagWord tag
 
--- an edit as an item of a batch
-abbrev pub edit_said : Edit → batch.Item
-edit_said (edit.MapPath path answer) = batch.MapPath path answer
-edit_said (edit.UnmapPath path) = batch.UnmapPath path
-edit_said edit.Clear = batch.Clear
-edit_said (edit.MapId id answer) = batch.MapId id answer
-edit_said (edit.UnmapId id) = batch.UnmapId id
-edit_said (edit.Notify changes) = batch.ChangeSet (set_said changes.set).removes (set_said changes.set).inserts
-
--- a command as the definition has it
+-- a command as the definition has it; an edit is what a batch takes of its item
 abbrev pub command_of : Command → plain.Command
-command_of (command.Edit target edit) = plain.Edit target (edit_said edit)
+command_of (command.Edit target item) = plain.Edit target (clean_item item)
 command_of command.Snapshot = plain.Snapshot
 command_of (command.Read view id) = plain.Read view (id_said id)
 command_of (command.Source view id) = plain.Source view (id_said id)

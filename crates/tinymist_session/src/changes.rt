@@ -1,17 +1,17 @@
 //! The changes that the fields of a line write.
-ghost use Rattle.std.specs.Prelude.{◌≡◌, IfOk};
+ghost use Rattle.std.specs.Prelude.{◌≡◌, IfOk, OnOk};
 ghost use Rattle.std.specs.Option.{option_map};
-ghost use Rattle.tinymist_session.specs.Grammar.{changes_of, told_of, path_of, content_of};
+ghost use Rattle.tinymist_session.specs.Grammar.{changes_of, with_changes, told_of, path_of, content_of};
 ghost use Rattle.tinymist_session.specs.ChangeSets.{set_said};
 ghost use Rattle.tinymist_session.specs.Said.{change_said, fields_of, ReadsChange};
 
-use crate::change_set::CleanChanges;
 use crate::content::content;
 use crate::fields::first_field;
-use crate::words::{CleanPath, after_sign, path};
+use crate::words::{after_sign, path};
 use std::alloc::Global;
+use tinymist_vfs::FileChangeSet;
 use ty_cells::FileSnapshot;
-use ty_path::OutOfMemory;
+use ty_path::{CleanPath, OutOfMemory};
 
 /// One change of a change set.
 #[derive(Drop)]
@@ -22,23 +22,36 @@ enum Change {
     Tell(CleanPath, FileSnapshot),
 }
 
+impl Change {
+    /// Puts it after the changes of a set.
+    fn add_to(self, set: &mut FileChangeSet) -> Result<(), OutOfMemory>
+        ensures { OnOk result (set_said set.new ≡ with_changes (set_said set.old) (change_said self)) }
+    {
+        match self {
+            Change::Remove(path) => set.removes.push(path.into_shared())?,
+            Change::Tell(path, answer) => set.inserts.push((path.into_shared(), answer))?,
+        }
+        Ok(())
+    }
+}
+
 /// The changes that all fields write.
 pub(crate) fn changes(
     alloc: Global,
     fields: Option<&str>,
-) -> Result<Option<CleanChanges>, OutOfMemory>
-    ensures { IfOk result (λ all. option_map (λ c. set_said c.set) all ≡ changes_of (fields_of fields.entry)) }
+) -> Result<Option<FileChangeSet>, OutOfMemory>
+    ensures { IfOk result (λ all. option_map set_said all ≡ changes_of (fields_of fields.entry)) }
 {
-    let mut all = CleanChanges::new(alloc);
+    let mut all = FileChangeSet {
+        removes: Vec::new(alloc),
+        inserts: Vec::new(alloc),
+    };
     let mut left = fields;
     while let Some(text) = left {
         let Some((change, rest)) = first_change(alloc, text)? else {
             return Ok(None);
         };
-        all = match change {
-            Change::Remove(path) => all.with_removal(alloc, path)?,
-            Change::Tell(path, answer) => all.with_file(alloc, path, answer)?,
-        };
+        change.add_to(&mut all)?;
         left = rest;
     }
     Ok(Some(all))

@@ -8,10 +8,10 @@ ghost use Rattle.tinymist_session.specs.Said.{command_of, id_said, fields_of};
 
 use crate::changes::changes;
 use crate::content::{ContentWord, IdWord, content, id, ids};
-use crate::edit::Edit;
 use crate::fields::{cut, one_field, three_fields, two_fields, two_or_more_fields};
 use crate::words::{number, path, text_of, virtual_path};
 use std::alloc::Global;
+use tinymist_vfs::Item;
 use ty_path::OutOfMemory;
 use ty_syntax::VirtualPath;
 
@@ -19,7 +19,7 @@ use ty_syntax::VirtualPath;
 #[derive(Drop)]
 pub enum Command {
     /// Edits a target.
-    Edit(u64, Edit),
+    Edit(u64, Item),
     /// Maps an id of a target.
     MapId(u64, IdWord, ContentWord),
     /// Takes an id out of a target's overlay.
@@ -178,7 +178,7 @@ fn map_sentence(alloc: Global, fields: Option<&str>) -> Result<Option<Command>, 
         return Ok(None);
     };
     let answer = content.answer_at(alloc, path.as_str())?;
-    Ok(Some(Command::Edit(target, Edit::MapPath(path, answer))))
+    Ok(Some(Command::Edit(target, Item::MapPath(path, answer))))
 }
 
 fn unmap_sentence(alloc: Global, fields: Option<&str>) -> Result<Option<Command>, OutOfMemory>
@@ -191,7 +191,7 @@ fn unmap_sentence(alloc: Global, fields: Option<&str>) -> Result<Option<Command>
         return Ok(None);
     };
     match path(alloc, word)? {
-        Some(path) => Ok(Some(Command::Edit(target, Edit::UnmapPath(path)))),
+        Some(path) => Ok(Some(Command::Edit(target, Item::UnmapPath(path)))),
         None => Ok(None),
     }
 }
@@ -200,7 +200,7 @@ fn clear_sentence(fields: Option<&str>) -> Option<Command>
     ensures { option_map command_of result ≡ grammar.target_sentence (λ target. plain.Edit target Clear) (fields_of fields.entry) }
 {
     let target = number(one_field(fields)?)?;
-    Some(Command::Edit(target, Edit::Clear))
+    Some(Command::Edit(target, Item::Clear))
 }
 
 fn paths_sentence(fields: Option<&str>) -> Option<Command>
@@ -251,7 +251,7 @@ fn notify_sentence(alloc: Global, fields: Option<&str>) -> Result<Option<Command
     ensures { IfOk result (λ said. option_map command_of said ≡ grammar.notify_sentence (fields_of fields.entry)) }
 {
     match changes(alloc, fields)? {
-        Some(changes) => Ok(Some(Command::Edit(0, Edit::Notify(changes)))),
+        Some(changes) => Ok(Some(Command::Edit(0, Item::ChangeSet(changes)))),
         None => Ok(None),
     }
 }

@@ -6,10 +6,10 @@ ghost use Rattle.tinymist_session.specs.Said.{content_said, id_said, fields_of};
 
 use crate::digits::decode;
 use crate::fields::first_field;
-use crate::words::{CleanPath, after_sign, number, path};
+use crate::words::{after_sign, number, path};
 use std::alloc::Global;
 use ty_cells::FileSnapshot;
-use ty_path::OutOfMemory;
+use ty_path::{CleanPath, OutOfMemory};
 use ty_syntax::{Bytes, FileError};
 
 /// A content as it is written in a line.

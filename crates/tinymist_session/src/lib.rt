@@ -1,12 +1,10 @@
 //! A session over a stream of command lines: its grammar, its machine, its loop, and the program's top call.
 #![tactic(auto)]
 
-mod change_set;
 mod changes;
 mod command;
 mod content;
 mod digits;
-mod edit;
 mod fields;
 mod limits;
 mod machine;
@@ -23,10 +21,8 @@ mod system;
 mod tagged;
 mod words;
 
-pub use change_set::CleanChanges;
 pub use command::{Command, read_command};
 pub use content::{ContentWord, IdWord};
-pub use edit::Edit;
 pub use limits::{DEFAULT_LIMITS, Limits};
 pub use memory::{MemorySink, MemorySource};
 pub use program::{bad_words, out_of_memory, run_program};
@@ -35,4 +31,5 @@ pub use session::{SessionFault, run_session};
 pub use sink::{ByteSink, FlushStep, WriteStep};
 pub use source::{LineSource, ReadStep};
 pub use system::{PIECE, StdSink, StdinSource};
-pub use words::CleanPath;
+pub use tinymist_vfs::{FileChangeSet, Item};
+pub use ty_path::CleanPath;

@@ -3,20 +3,20 @@ ghost use Rattle.std.specs.Prelude.{◌≡◌, ◌+◌, ◌-◌, ◌^◌, ◌<�
 ghost use Rattle.std.specs.Option.{option_map, option_copied};
 ghost use Rattle.ty_model.specs.Batch as batch;
 ghost use Rattle.ty_model.specs.Disk.{Told, IsFixed};
+ghost use Rattle.tinymist_vfs.specs.Items.{clean_item};
 ghost use Rattle.tinymist_session.specs.Grammar.{answer_at};
 ghost use Rattle.tinymist_session.specs.Machine as plain;
 ghost use Rattle.tinymist_session.specs.Reply as plain_reply;
-ghost use Rattle.tinymist_session.specs.Said.{reply_of, command_of, edit_said, content_said, id_said};
+ghost use Rattle.tinymist_session.specs.Said.{reply_of, command_of, content_said, id_said};
 ghost use Rattle.tinymist_session.specs.Shown.{MachineShows, KeepsOthers, kept_at, target_kept, top_of, next_number};
 
 use crate::command::Command;
 use crate::content::{ContentWord, IdWord};
-use crate::edit::Edit;
 use crate::reply::Reply;
 use crate::space::{edit_space, snapshot_of};
 use crate::tagged::TaggedIds;
 use std::alloc::Global;
-use tinymist_vfs::{MockRootResolver, Vfs, WorkspaceResolver};
+use tinymist_vfs::{Item, MockRootResolver, Vfs, WorkspaceResolver};
 use ty_cells::PathAccessModel;
 use ty_path::{OutOfMemory, Share};
 use ty_syntax::{FileId, TagFault};
@@ -66,7 +66,7 @@ impl Machine {
         ensures number { next_number self.new.tags ≤ next_number self.old.tags + 1 }
     {
         match command {
-            Command::Edit(target, edit) => self.edit_target(target, edit),
+            Command::Edit(target, item) => self.edit_target(target, item),
             Command::MapId(target, word, content) => self.map_id(target, &word, content),
             Command::UnmapId(target, word) => self.unmap_id(target, &word),
             Command::Rootless(vpath) => {
@@ -88,23 +88,23 @@ impl Machine {
     }
 
     /// Edits a target, and answers its revision.
-    fn edit_target(&mut self, target: u64, edit: Edit) -> Result<Reply, OutOfMemory>
+    fn edit_target(&mut self, target: u64, item: Item) -> Result<Reply, OutOfMemory>
         requires { top_of self.old < 2 ^ 64 - 1 }
-        ensures reply { (s : plain.State) → MachineShows self.old s → IfOk result (λ r. reply_of r ≡ (plain.edit_step s target (edit_said edit)).reply) }
-        ensures state { (s : plain.State) → MachineShows self.old s → OnOk result (MachineShows self.new (plain.edit_step s target (edit_said edit)).state) }
+        ensures reply { (s : plain.State) → MachineShows self.old s → IfOk result (λ r. reply_of r ≡ (plain.edit_step s target (clean_item item)).reply) }
+        ensures state { (s : plain.State) → MachineShows self.old s → OnOk result (MachineShows self.new (plain.edit_step s target (clean_item item)).state) }
         ensures others { KeepsOthers (Some target) self.old self.new }
         ensures revision { top_of self.new ≤ top_of self.old + 1 }
         ensures tags { self.new.tags ≡ self.old.tags }
     {
         if target == 0 {
-            let revision = edit_space(&mut self.live, edit)?;
+            let revision = edit_space(&mut self.live, item)?;
             return Ok(Reply::AtRevision(revision));
         }
         let k = (target - 1) as usize;
         if k >= self.views.len() {
             return Ok(Reply::BadView);
         }
-        let revision = edit_space(&mut self.views[k], edit)?;
+        let revision = edit_space(&mut self.views[k], item)?;
         Ok(Reply::AtRevision(revision))
     }
 
@@ -129,7 +129,7 @@ impl Machine {
             return Ok(Reply::BadId);
         };
         let answer = content.answer_at(self.alloc, id.vpath().get_with_slash())?;
-        self.edit_target(target, Edit::MapId(id, answer))
+        self.edit_target(target, Item::MapId(id, answer))
     }
 
     /// Takes an id out of a target's overlay, and answers its revision.
@@ -147,7 +147,7 @@ impl Machine {
         let Some(id) = self.id_of(word)? else {
             return Ok(Reply::BadId);
         };
-        self.edit_target(target, Edit::UnmapId(id))
+        self.edit_target(target, Item::UnmapId(id))
     }
 
     /// Takes a snapshot of the live state, and answers its number.

@@ -1,5 +1,5 @@
 //! One space: its edits, its snapshots, and what is asked of it.
-ghost use Rattle.std.specs.Prelude.{◌≡◌, ◌+◌, ◌-◌, ◌^◌, ◌<◌, ◌++◌, ◌∷◌, [], List, IfOk, OnOk, OnErr, Some, Err};
+ghost use Rattle.std.specs.Prelude.{◌≡◌, ◌+◌, ◌-◌, ◌^◌, ◌<◌, ◌∷◌, [], List, IfOk, OnOk, OnErr, Some, Err};
 ghost use Rattle.ty_model.specs.Disk.{Told, IsFixed};
 ghost use Rattle.ty_model.specs.LookUp.{look};
 ghost use Rattle.ty_model.specs.Places.{place_of, detached_entry};
@@ -10,61 +10,44 @@ ghost use Rattle.ty_model.specs.Standing.{are_clean};
 ghost use Rattle.ty_model.specs.Version.{Version, same_id};
 ghost use Rattle.ty_syntax.specs.Lines.{place};
 ghost use Rattle.tinymist_vfs.specs.Commits.{committed};
-ghost use Rattle.tinymist_vfs.specs.Revising.{items_in, AddsItems};
+ghost use Rattle.tinymist_vfs.specs.Items.{clean_item};
 ghost use Rattle.tinymist_session.specs.Machine.{source_at, clean_reply};
 ghost use Rattle.tinymist_session.specs.Reply.{reply_to, place_reply, at_reply};
-ghost use Rattle.tinymist_session.specs.Said.{reply_of, edit_said, GivesSource};
+ghost use Rattle.tinymist_session.specs.Said.{reply_of, GivesSource};
 ghost use Rattle.tinymist_session.specs.Shown.{Shows, shown, known};
 
-use crate::edit::Edit;
 use crate::reply::Reply;
 use std::alloc::Global;
 use std::marker::Brand;
 use std::sync::ledger::{Blank, Ledger};
-use tinymist_vfs::{MockRootResolver, PathResolution, ReviseFault, RevisingVfs, Vfs};
+use tinymist_vfs::{Item, MockRootResolver, PathResolution, ReviseFault, Vfs};
 use ty_cells::{OwnCells, PathAccessModel};
 use ty_path::{OutOfMemory, Share};
 use ty_persist::Steps;
 use ty_syntax::{FileFault, FileId, FileResult, Lines, Source, TagFault, Tags, detached_entry};
 
-/// Edits a space below the last revision.
-pub(crate) fn edit_space(vfs: &mut Vfs<MockRootResolver>, edit: Edit) -> Result<u64, OutOfMemory>
+/// Edits a space below the last revision, by one item.
+pub(crate) fn edit_space(vfs: &mut Vfs<MockRootResolver>, item: Item) -> Result<u64, OutOfMemory>
     requires { vfs.old.held.revision < 2 ^ 64 - 1 }
-    ensures ok { IfOk result (λ n. (vfs.new ≡ committed vfs.old (edit_said edit ∷ [])) × (n ≡ vfs.new.held.revision)) }
+    ensures ok { IfOk result (λ n. (vfs.new ≡ committed vfs.old (clean_item item ∷ [])) × (n ≡ vfs.new.held.revision)) }
     ensures err { OnErr result (vfs.new ≡ vfs.old) }
 {
-    match commit(vfs, edit) {
+    match commit(vfs, item) {
         Ok(revision) => Ok(revision),
         Err(ReviseFault::Full) => unreachable!(),
         Err(ReviseFault::OutOfMemory) => Err(OutOfMemory),
     }
 }
 
-/// Commits an edit in a batch of its own.
-fn commit(vfs: &mut Vfs<MockRootResolver>, edit: Edit) -> Result<u64, ReviseFault>
-    ensures ok { IfOk result (λ n. (vfs.new ≡ committed vfs.old (edit_said edit ∷ [])) × (n ≡ vfs.new.held.revision)) }
+/// Commits an item in a batch of its own.
+fn commit(vfs: &mut Vfs<MockRootResolver>, item: Item) -> Result<u64, ReviseFault>
+    ensures ok { IfOk result (λ n. (vfs.new ≡ committed vfs.old (clean_item item ∷ [])) × (n ≡ vfs.new.held.revision)) }
     ensures err { OnErr result (vfs.new ≡ vfs.old) }
     ensures full { result ≡ Err ReviseFault.Full → vfs.old.held.revision ≡ 2 ^ 64 - 1 }
 {
     let mut batch = vfs.revise()?;
-    gather(&mut batch, edit)?;
+    batch.push(item)?;
     batch.finish()
-}
-
-/// Gathers an edit.
-fn gather(batch: &mut RevisingVfs<'_, MockRootResolver>, edit: Edit) -> Result<(), OutOfMemory>
-    ensures adds { AddsItems batch.old batch.new }
-    ensures ok { OnOk result (items_in batch.new ≡ items_in batch.old ++ edit_said edit ∷ []) }
-    ensures err { OnErr result (items_in batch.new ≡ items_in batch.old) }
-{
-    match edit {
-        Edit::MapPath(path, answer) => batch.map_shadow(path.as_str(), answer),
-        Edit::UnmapPath(path) => batch.unmap_shadow(path.as_str()),
-        Edit::MapId(id, answer) => batch.map_shadow_by_id(&id, answer),
-        Edit::UnmapId(id) => batch.remove_shadow_by_id(&id),
-        Edit::Clear => batch.reset_shadow(),
-        Edit::Notify(changes) => batch.notify_fs_changes(changes.set),
-    }
 }
 
 /// A copy under a fresh space number.

@@ -1,14 +1,11 @@
 //! The text of a line, and the words that stand in its fields.
-ghost use Rattle.std.specs.Prelude.{◌≡◌, ℕ, List, ◌<◌, ◌∷◌, IfOk, IfSome, IfNone, None, true, false};
+ghost use Rattle.std.specs.Prelude.{◌≡◌, ◌<◌, ◌∷◌, IfOk, IfSome, IfNone, None, true, false};
 ghost use Rattle.std.specs.Option.{option_map, option_and_then};
 ghost use Rattle.std.specs.List.{list_all};
-ghost use Rattle.std.specs.String.{string_bytes};
-ghost use Rattle.ty_model.specs.Paths.{clean};
 ghost use Rattle.tinymist_session.specs.Grammar as grammar;
 
 use std::alloc::Global;
-use std::marker::Model;
-use ty_path::{OutOfMemory, is_absolute, is_clean};
+use ty_path::{CleanPath, OutOfMemory, is_absolute, is_clean};
 use ty_syntax::{PathFault, VirtualPath};
 
 /// The line as text, where it is UTF-8 without control bytes but tabs.
@@ -73,48 +70,14 @@ fn digits_from(start: u64, digits: &[u8]) -> Option<u64>
     Some(n)
 }
 
-/// A path that is its cleaned form. Contracts see its bytes.
-#[derive(Drop)]
-pub struct CleanPath {
-    text: String,
-}
-
-impl Model for CleanPath {
-    ghost Value = { List ℕ };
-
-    ghost view = { λ p. string_bytes p.text };
-
-    ghost invariant = { λ p. clean (string_bytes p.text) ≡ string_bytes p.text };
-}
-
-impl CleanPath {
-    /// The path's text.
-    pub fn as_str(&self) -> &str
-        ensures text { result.now ≡ self.now }
-        ensures clean { clean self.now ≡ self.now }
-    {
-        self.text.as_str()
-    }
-
-    /// The path's text, given away.
-    pub(crate) fn into_string(self) -> String
-        ensures text { string_bytes result ≡ self }
-        ensures clean { clean self ≡ self }
-    {
-        self.text
-    }
-}
-
 /// The word, where it is an absolute path that is its cleaned form.
 pub(crate) fn path(alloc: Global, word: &str) -> Result<Option<CleanPath>, OutOfMemory>
     ensures { IfOk result (λ path. path ≡ grammar.path_of word.now) }
 {
-    if !is_absolute(word) || !is_clean(word) {
+    if !is_absolute(word) {
         return Ok(None);
     }
-    Ok(Some(CleanPath {
-        text: String::from_str(alloc, word)?,
-    }))
+    CleanPath::if_clean(alloc, word)
 }
 
 /// What stands after an ASCII sign.
@@ -130,10 +93,10 @@ pub(crate) fn after_sign(sign: char, word: &str) -> Option<&str>
 pub(crate) fn virtual_path(alloc: Global, word: &str) -> Result<Option<VirtualPath>, OutOfMemory>
     ensures { IfOk result (λ vpath. vpath ≡ grammar.vpath_of word.now) }
 {
-    let Some(path) = path(alloc, word)? else {
+    if !is_absolute(word) || !is_clean(word) {
         return Ok(None);
-    };
-    match VirtualPath::new(alloc, path.as_str()) {
+    }
+    match VirtualPath::new(alloc, word) {
         Ok(vpath) => Ok(Some(vpath)),
         Err(PathFault::OutOfMemory) => Err(OutOfMemory),
         Err(_) => Ok(None),

@@ -1,8 +1,8 @@
 -- The parts of a clean path.
-use Rattle.std.specs.Prelude.{ℕ, ◌==◌, Bool, true, false, not, ◌&&◌, List, [], ◌∷◌, if◌then◌else◌}
+use Rattle.std.specs.Prelude.{ℕ, ◌==◌, Bool, true, false, not, ◌&&◌, List, [], ◌∷◌, if◌then◌else◌, Option, Some, None}
 use Rattle.std.specs.List.{list_all}
 use Rattle.std.specs.Str.{bytes_eq}
-use Rattle.ty_model.specs.Paths.{dot, dot_dot, counts, parts_at}
+use Rattle.ty_model.specs.Paths.{dot, dot_dot, counts, parts_at, clean}
 use Rattle.ty_path.specs.declared.pass.Part.{Part}
 use Rattle.ty_path.specs.declared.pass.Part.TheVariants.{Empty, Dot, DotDot, Name}
 
@@ -19,6 +19,10 @@ begins_plain (b ∷ bs) = not (b == 46)
 -- each part of a text is one of these
 abbrev pub are_plain : List ℕ → Bool
 are_plain text = list_all begins_plain (parts_at 47 text)
+
+-- the path, where it is its own cleaned form
+abbrev pub if_clean : List ℕ → Option (List ℕ)
+if_clean path = if bytes_eq path (clean path) then Some path else None
 
 -- which part a text is
 abbrev pub part_of : List ℕ → Part

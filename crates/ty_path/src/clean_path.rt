@@ -6,6 +6,7 @@ ghost use Rattle.std.specs.Bool.{nat_eq};
 ghost use Rattle.std.specs.Option.{option_map};
 ghost use Rattle.std.specs.Hash as fed;
 ghost use Rattle.ty_model.specs.Paths as plain;
+ghost use Rattle.ty_path.specs.Clean.{if_clean};
 ghost use Rattle.ty_path.specs.Shared.{path_text};
 
 use crate::cleaned::clean;
@@ -63,6 +64,18 @@ impl CleanPath {
         })
     }
 
+    /// The path, where it is its own cleaned form. It is told in one pass, and copied once.
+    pub fn if_clean(alloc: Global, path: &str) -> Result<Option<CleanPath>, OutOfMemory>
+        ensures { IfOk result (λ found. found ≡ if_clean path.now) }
+    {
+        if !is_clean(path) {
+            return Ok(None);
+        }
+        Ok(Some(CleanPath {
+            text: Arc::new(alloc, String::from_str(alloc, path)?)?,
+        }))
+    }
+
     /// The path as a text.
     pub fn as_str(&self) -> &str
         ensures text { result.now ≡ self.now }
@@ -80,7 +93,8 @@ impl CleanPath {
 
     /// The text itself.
     pub fn into_shared(self) -> ImmutPath
-        ensures { path_text result ≡ self }
+        ensures text { path_text result ≡ self }
+        ensures clean { plain.clean self ≡ self }
     {
         self.text
     }

@@ -6,7 +6,7 @@ use Rattle.tinymist_session.specs.Said.{fields_of}
 use Rattle.tinymist_session.proofs.changes.changes.Given as goal
 
 abbrev pub invariant-loop-left : goal.invariant-loop-left
-invariant-loop-left l = changes_of (fields_of l.fn.fields) ≡ option_map (with_changes (set_said l.all.set)) (changes_of (fields_of l.left))
+invariant-loop-left l = changes_of (fields_of l.fn.fields) ≡ option_map (with_changes (set_said l.all)) (changes_of (fields_of l.left))
 
 abbrev pub decreases-loop-left : goal.decreases-loop-left
 decreases-loop-left l = length (fields_of l.left)
