@@ -1,18 +1,17 @@
 //! Disks, and what they say of files.
-use crate::files::{absent, disk_with, holding};
+use crate::files::{absent, disk_with, disk_without_files, holding};
 use std::alloc::Global;
 use std::process::Abort;
 use std::test::Fail;
 use ty_cells::{
-    DummyAccessModel, FileSnapshot, LazyFile, MapAccess, OwnCells, PathAccessModel,
-    SystemAccessModel,
+    DummyAccessModel, FileSnapshot, LazyFile, OwnCells, PathAccessModel, SystemAccessModel,
 };
 use ty_path::Share;
 use ty_syntax::{FileError, FileFault};
 
 #[test]
 fn an_empty_disk_finds_nothing(rt: HostRuntime) -> Result<(), Fail> {
-    let mut disk = MapAccess::new(Vec::new(rt.alloc()));
+    let mut disk = disk_without_files(rt.alloc());
     let mut cells = OwnCells::new(&mut disk);
     let missing = absent(rt.alloc(), "/w/a.typ")?;
     assert!(rt; cells.ask(rt.alloc(), "/w/a.typ")?.same_as(&missing));
@@ -96,7 +95,7 @@ fn an_error_is_no_file(rt: HostRuntime) -> Result<(), Fail> {
 #[test]
 fn a_disk_holds_what_it_says(rt: HostRuntime) -> Result<(), Fail> {
     let alloc = rt.alloc();
-    let mut empty = MapAccess::new(Vec::new(alloc));
+    let mut empty = disk_without_files(alloc);
     let missing = empty.content(alloc, "/a")?;
     let denied = FileSnapshot::from_error(alloc, FileError::AccessDenied)?;
     assert!(rt; empty.holds("/a", &missing));

@@ -16,6 +16,11 @@ pub fn absent(alloc: Global, path: &str) -> Result<FileSnapshot, Fail> {
     Ok(FileSnapshot::from_error(alloc, FileError::NotFound(path))?)
 }
 
+/// A disk without files.
+pub fn disk_without_files(alloc: Global) -> MapAccess {
+    MapAccess::new(Vec::new(alloc))
+}
+
 /// A disk with one file.
 pub fn disk_with(alloc: Global, path: &str, bytes: &str) -> Result<MapAccess, Fail> {
     let path = String::from_str(alloc, path)?;

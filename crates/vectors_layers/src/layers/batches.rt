@@ -4,7 +4,7 @@ use crate::layers::made::{Layered, id_below, joined, mapped, path};
 use std::alloc::Global;
 use std::test::Fail;
 use tinymist_vfs::{FileChangeSet, FilesystemEvent, MockRootResolver, ReviseFault, Vfs};
-use ty_syntax::{Root, Tags};
+use ty_syntax::{FileId, Root, Tags};
 
 /// Batches over one set of layers, and the revision that each answers.
 static BATCHES: [(&[(&str, &str)], u64); 6] = [
@@ -39,44 +39,93 @@ fn refused_batches_have_texts(rt: HostRuntime) -> Result<(), Fail> {
     Ok(())
 }
 
-#[test]
-fn batches_of_every_kind(rt: HostRuntime) -> Result<(), Fail> {
-    let alloc = rt.alloc();
-    let mut live = Vfs::new(alloc, MockRootResolver, &mut Tags::new())?;
-    let id = id_below(alloc, Root::Project)?;
+/// Layers without files.
+fn empty(alloc: Global) -> Result<Layered, Fail> {
+    Ok(Vfs::new(alloc, MockRootResolver, &mut Tags::new())?)
+}
+
+/// Maps a path and an id. The revisions that the batch sees and that it ends with.
+fn map_both(alloc: Global, live: &mut Layered, id: &FileId) -> Result<(u64, u64), Fail> {
     let mut batch = live.revise()?;
     batch.map_shadow("/w/./a", holding(alloc, "x")?)?;
-    batch.map_shadow_by_id(&id, holding(alloc, "y")?)?;
-    assert_eq!(rt; batch.vfs().revision(), 2);
-    assert_eq!(rt; batch.finish()?, 3);
-    assert_eq!(rt; joined(alloc, &live.shadow_paths()?)?.as_str(), "/w/a ");
-    assert!(rt; matches!(live.shadow_ids()?.as_slice(), [shadow] if *shadow == id));
+    batch.map_shadow_by_id(id, holding(alloc, "y")?)?;
+    let before = batch.vfs().revision();
+    Ok((before, batch.finish()?))
+}
+
+fn unmap_both(live: &mut Layered, id: &FileId) -> Result<u64, Fail> {
     let mut batch = live.revise()?;
     batch.unmap_shadow("/w//a")?;
-    batch.remove_shadow_by_id(&id)?;
-    assert_eq!(rt; batch.finish()?, 4);
-    assert!(rt; live.shadow_paths()?.is_empty());
+    batch.remove_shadow_by_id(id)?;
+    Ok(batch.finish()?)
+}
+
+fn unmap_absent(live: &mut Layered) -> Result<u64, Fail> {
     let mut batch = live.revise()?;
     batch.unmap_shadow("/w/absent")?;
-    assert_eq!(rt; batch.finish()?, 5);
-    for (text, revision) in [("told", 6), ("told", 6), ("other", 7)] {
-        let files = vec![in alloc; (path(alloc, "/w/./c")?, holding(alloc, text)?)]?;
-        let mut batch = live.revise()?;
-        batch.notify_fs_changes(FileChangeSet::new_inserts(alloc, files))?;
-        assert_eq!(rt; batch.finish()?, revision);
-    }
+    Ok(batch.finish()?)
+}
+
+#[test]
+fn shadows_come_and_go(rt: HostRuntime) -> Result<(), Fail> {
+    let alloc = rt.alloc();
+    let mut live = empty(alloc)?;
+    let id = id_below(alloc, Root::Project)?;
+    assert_eq!(rt; map_both(alloc, &mut live, &id)?, (2, 3));
+    assert_eq!(rt; joined(alloc, &live.shadow_paths()?)?.as_str(), "/w/a ");
+    assert!(rt; matches!(live.shadow_ids()?.as_slice(), [shadow] if *shadow == id));
+    assert_eq!(rt; unmap_both(&mut live, &id)?, 4);
+    assert!(rt; live.shadow_paths()?.is_empty());
+    assert!(rt; live.shadow_ids()?.is_empty());
+    assert_eq!(rt; unmap_absent(&mut live)?, 5);
+    Ok(())
+}
+
+fn tell(alloc: Global, live: &mut Layered, text: &str) -> Result<u64, Fail> {
+    let files = vec![in alloc; (path(alloc, "/w/./c")?, holding(alloc, text)?)]?;
+    let mut batch = live.revise()?;
+    batch.notify_fs_changes(FileChangeSet::new_inserts(alloc, files))?;
+    Ok(batch.finish()?)
+}
+
+fn tell_of_removal(alloc: Global, live: &mut Layered) -> Result<u64, Fail> {
     let gone = FileChangeSet::new_removes(alloc, vec![in alloc; path(alloc, "/w/c")?]?);
     let mut batch = live.revise()?;
     batch.notify_fs_event(FilesystemEvent::Update(gone, false))?;
-    assert_eq!(rt; batch.finish()?, 8);
+    Ok(batch.finish()?)
+}
+
+#[test]
+fn told_files_raise_where_they_differ(rt: HostRuntime) -> Result<(), Fail> {
+    let alloc = rt.alloc();
+    let mut live = empty(alloc)?;
+    for (text, revision) in [("told", 3), ("told", 3), ("other", 4)] {
+        assert_eq!(rt; tell(alloc, &mut live, text)?, revision);
+    }
+    assert_eq!(rt; tell_of_removal(alloc, &mut live)?, 5);
+    Ok(())
+}
+
+fn change_view(live: &mut Layered) -> Result<u64, Fail> {
     let mut batch = live.revise()?;
     batch.change_view();
-    assert_eq!(rt; batch.finish()?, 9);
-    assert_eq!(rt; mapped(alloc, &mut live, &[("/w/d", "d")])?, Ok(10));
-    for revision in [11, 11] {
-        let mut batch = live.revise()?;
-        batch.reset_shadow()?;
-        assert_eq!(rt; batch.finish()?, revision);
+    Ok(batch.finish()?)
+}
+
+fn clear(live: &mut Layered) -> Result<u64, Fail> {
+    let mut batch = live.revise()?;
+    batch.reset_shadow()?;
+    Ok(batch.finish()?)
+}
+
+#[test]
+fn views_rise_and_overlays_are_emptied(rt: HostRuntime) -> Result<(), Fail> {
+    let alloc = rt.alloc();
+    let mut live = empty(alloc)?;
+    assert_eq!(rt; change_view(&mut live)?, 3);
+    assert_eq!(rt; mapped(alloc, &mut live, &[("/w/d", "d")])?, Ok(4));
+    for revision in [5, 5] {
+        assert_eq!(rt; clear(&mut live)?, revision);
     }
     Ok(())
 }

@@ -7,7 +7,7 @@ use std::test::Fail;
 use tinymist_vfs::{FileChangeSet, Item, MockRootResolver, RevisingVfs, Vfs};
 use ty_cells::{DummyAccessModel, OwnCells};
 use ty_path::CleanPath;
-use ty_syntax::Tags;
+use ty_syntax::{FileId, Tags};
 
 /// The paths, ascending.
 static PATHS: [&str; 6] = ["/w/a", "/w/b", "/w/c", "/w/d", "/w/e", "/w/f"];
@@ -143,20 +143,22 @@ fn end_batch(rows: &mut [Row], revision: u64) -> u64 {
     after
 }
 
+/// Whether a read of the id gives this text, or fails where it is empty.
+fn reads_as(live: &Layered, id: &FileId, text: &str) -> bool {
+    let mut disk = DummyAccessModel::new();
+    let mut cells = OwnCells::new(&mut disk);
+    match live.read(&mut cells, id) {
+        Ok(bytes) => bytes.as_slice() == text.as_bytes(),
+        Err(_) => text.is_empty(),
+    }
+}
+
 /// Whether a read of the row's path gives its text, and the path is clean where the row says so.
 fn shows_row(alloc: Global, live: &Layered, row: &Row, since: u64) -> Result<bool, Fail> {
     let ids = ids_of(alloc, &[row.path])?;
-    let mut disk = DummyAccessModel::new();
-    let mut cells = OwnCells::new(&mut disk);
+    let read = ids.first().is_some_and(|id| reads_as(live, id, row.text()));
     let clean = is_clean(live, since, &ids)?;
-    for id in &ids {
-        let text = match live.read(&mut cells, id) {
-            Ok(bytes) => bytes.as_slice() == row.text().as_bytes(),
-            Err(_) => row.text().is_empty(),
-        };
-        return Ok(text && clean == (row.changed <= since));
-    }
-    Ok(false)
+    Ok(read && clean == (row.changed <= since))
 }
 
 /// The paths with a shadow, with a space behind each.
