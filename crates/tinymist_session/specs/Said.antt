@@ -91,10 +91,9 @@ abbrev pub fields_of : Option (Bor (List ℕ)) → List (List ℕ)
 fields_of None = []
 fields_of (Some text) = parts_at 9 text.now
 
--- the first change that fields between tabs write, if they write changes, and the fields after it
-abbrev pub ReadsChange : List ℕ → Option (Change × Option (Bor (List ℕ))) → Type 0
-ReadsChange text None = changes_of (parts_at 9 text) ≡ None
-ReadsChange text (Some (change, rest)) = (changes_of (parts_at 9 text) ≡ joined (Some (change_said change)) (changes_of (fields_of rest))) × (length (fields_of rest) < length (parts_at 9 text))
+-- the first change that fields between tabs write, and the fields after it
+abbrev pub ReadsChange : List ℕ → Change × Option (Bor (List ℕ)) → Type 0
+ReadsChange text (change, rest) = (changes_of (parts_at 9 text) ≡ joined (Some (change_said change)) (changes_of (fields_of rest))) × (length (fields_of rest) < length (parts_at 9 text))
 
 -- the source that is given has the text of this answer, or the error is its refusal
 abbrev pub GivesSource : Answer → Result Source FileFault → Type 0

@@ -1,12 +1,13 @@
 //! The changes that the fields of a line write.
-ghost use Rattle.std.specs.Prelude.{◌≡◌, IfOk, OnOk};
-ghost use Rattle.std.specs.Option.{option_map};
+ghost use Rattle.std.specs.Prelude.{◌≡◌, IfOk, OnOk, IsErrOf, Some, None};
+ghost use Rattle.ty_model.specs.Paths.{parts_at};
 ghost use Rattle.tinymist_session.specs.Grammar.{changes_of, with_changes, told_of, path_of, content_of};
 ghost use Rattle.tinymist_session.specs.ChangeSets.{set_said};
 ghost use Rattle.tinymist_session.specs.Said.{change_said, fields_of, ReadsChange};
 
 use crate::content::content;
 use crate::fields::first_field;
+use crate::read_error::ReadError;
 use crate::words::{after_sign, path};
 use std::alloc::Global;
 use tinymist_vfs::FileChangeSet;
@@ -36,11 +37,9 @@ impl Change {
 }
 
 /// The changes that all fields write.
-pub(crate) fn changes(
-    alloc: Global,
-    fields: Option<&str>,
-) -> Result<Option<FileChangeSet>, OutOfMemory>
-    ensures { IfOk result (λ all. option_map set_said all ≡ changes_of (fields_of fields.entry)) }
+pub(crate) fn changes(alloc: Global, fields: Option<&str>) -> Result<FileChangeSet, ReadError>
+    ensures reads { IfOk result (λ r. changes_of (fields_of fields.entry) ≡ Some (set_said r)) }
+    ensures none { IsErrOf result ReadError.NoCommand → changes_of (fields_of fields.entry) ≡ None }
 {
     let mut all = FileChangeSet {
         removes: Vec::new(alloc),
@@ -48,46 +47,35 @@ pub(crate) fn changes(
     };
     let mut left = fields;
     while let Some(text) = left {
-        let Some((change, rest)) = first_change(alloc, text)? else {
-            return Ok(None);
-        };
+        let (change, rest) = first_change(alloc, text)?;
         change.add_to(&mut all)?;
         left = rest;
     }
-    Ok(Some(all))
+    Ok(all)
 }
 
 /// The change that the first fields write, and the fields after it.
-fn first_change(alloc: Global, fields: &str) -> Result<Option<(Change, Option<&str>)>, OutOfMemory>
-    ensures { IfOk result (ReadsChange fields.now) }
+fn first_change(alloc: Global, fields: &str) -> Result<(Change, Option<&str>), ReadError>
+    ensures reads { IfOk result (ReadsChange fields.now) }
+    ensures none { IsErrOf result ReadError.NoCommand → changes_of (parts_at 9 fields.now) ≡ None }
 {
     let (word, rest) = first_field(fields);
     if let Some(removed) = after_sign('-', word) {
-        return match path(alloc, removed)? {
-            Some(path) => Ok(Some((Change::Remove(path), rest))),
-            None => Ok(None),
-        };
+        let path = path(alloc, removed)?;
+        return Ok((Change::Remove(path), rest));
     }
-    let (Some(told), Some(rest)) = (after_sign('+', word), rest) else {
-        return Ok(None);
-    };
-    let (says, rest) = first_field(rest);
-    match told_file(alloc, told, says)? {
-        Some(file) => Ok(Some((file, rest))),
-        None => Ok(None),
-    }
+    let told = after_sign('+', word).ok_or(ReadError::NoCommand)?;
+    let (says, rest) = first_field(rest.ok_or(ReadError::NoCommand)?);
+    let file = told_file(alloc, told, says)?;
+    Ok((file, rest))
 }
 
 /// A path that is told, and its content.
-fn told_file(alloc: Global, word: &str, says: &str) -> Result<Option<Change>, OutOfMemory>
-    ensures { IfOk result (λ file. option_map change_said file ≡ told_of (path_of word.now) (content_of says.now)) }
+fn told_file(alloc: Global, word: &str, says: &str) -> Result<Change, ReadError>
+    ensures reads { IfOk result (λ r. told_of (path_of word.now) (content_of says.now) ≡ Some (change_said r)) }
+    ensures none { IsErrOf result ReadError.NoCommand → told_of (path_of word.now) (content_of says.now) ≡ None }
 {
-    let Some(path) = path(alloc, word)? else {
-        return Ok(None);
-    };
-    let Some(content) = content(alloc, says)? else {
-        return Ok(None);
-    };
-    let answer = content.answer_at(alloc, path.as_str())?;
-    Ok(Some(Change::Tell(path, answer)))
+    let path = path(alloc, word)?;
+    let answer = content(alloc, says)?.answer_at(alloc, path.as_str())?;
+    Ok(Change::Tell(path, answer))
 }

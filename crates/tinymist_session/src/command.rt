@@ -1,6 +1,6 @@
 //! The command that a line reads as.
-ghost use Rattle.std.specs.Prelude.{◌≡◌, ◌∷◌, IfOk};
-ghost use Rattle.std.specs.Option.{option_map};
+ghost use Rattle.std.specs.Prelude.{◌≡◌, ◌∷◌, IfOk, IsErrOf, Some, None};
+ghost use Rattle.std.specs.Option.{option_map, option_and_then};
 ghost use Rattle.ty_model.specs.Batch.{Clear};
 ghost use Rattle.tinymist_session.specs.Command as plain;
 ghost use Rattle.tinymist_session.specs.Grammar as grammar;
@@ -9,6 +9,7 @@ ghost use Rattle.tinymist_session.specs.Said.{command_of, id_said, fields_of};
 use crate::changes::changes;
 use crate::content::{ContentWord, IdWord, content, id, ids};
 use crate::fields::{cut, one_field, three_fields, two_fields, two_or_more_fields};
+use crate::read_error::ReadError;
 use crate::words::{number, path, text_of, virtual_path};
 use std::alloc::Global;
 use tinymist_vfs::Item;
@@ -48,226 +49,201 @@ pub enum Command {
 pub fn read_command(alloc: Global, line: &[u8]) -> Result<Option<Command>, OutOfMemory>
     ensures { IfOk result (λ said. option_map command_of said ≡ grammar.command_of line.now) }
 {
-    match text_of(line) {
-        Some(text) => match cut(text) {
-            Some((word, rest)) => sentence(alloc, word, Some(rest)),
-            None => sentence(alloc, text, None),
-        },
-        None => Ok(None),
+    match read(alloc, line) {
+        Ok(command) => Ok(Some(command)),
+        Err(ReadError::NoCommand) => Ok(None),
+        Err(ReadError::OutOfMemory) => Err(OutOfMemory),
+    }
+}
+
+/// The command of a line.
+fn read(alloc: Global, line: &[u8]) -> Result<Command, ReadError>
+    ensures reads { IfOk result (λ r. grammar.command_of line.now ≡ Some (command_of r)) }
+    ensures none { IsErrOf result ReadError.NoCommand → grammar.command_of line.now ≡ None }
+{
+    let text = text_of(line).ok_or(ReadError::NoCommand)?;
+    match cut(text) {
+        Some((word, rest)) => sentence(alloc, word, Some(rest)),
+        None => sentence(alloc, text, None),
     }
 }
 
 /// The sentence that the word names, with the fields after it.
-fn sentence(alloc: Global, word: &str, fields: Option<&str>) -> Result<Option<Command>, OutOfMemory>
-    ensures { IfOk result (λ said. option_map command_of said ≡ grammar.sentence_of (word.now ∷ fields_of fields.entry)) }
+fn sentence(alloc: Global, word: &str, fields: Option<&str>) -> Result<Command, ReadError>
+    ensures reads { IfOk result (λ r. grammar.sentence_of (word.now ∷ fields_of fields.entry) ≡ Some (command_of r)) }
+    ensures none { IsErrOf result ReadError.NoCommand → grammar.sentence_of (word.now ∷ fields_of fields.entry) ≡ None }
 {
     match word {
         "map" => map_sentence(alloc, fields),
-        "snapshot" => Ok(snapshot_sentence(fields)),
+        "snapshot" => snapshot_sentence(fields),
         "read" => read_sentence(alloc, fields),
         "unmap" => unmap_sentence(alloc, fields),
-        "clear" => Ok(clear_sentence(fields)),
+        "clear" => clear_sentence(fields),
         "notify" => notify_sentence(alloc, fields),
-        "paths" => Ok(paths_sentence(fields)),
+        "paths" => paths_sentence(fields),
         "map-id" => map_id_sentence(alloc, fields),
         "unmap-id" => unmap_id_sentence(alloc, fields),
         "rootless" => rootless_sentence(alloc, fields),
-        "ids" => Ok(ids_sentence(fields)),
+        "ids" => ids_sentence(fields),
         "path" => path_sentence(alloc, fields),
         "source" => source_sentence(alloc, fields),
         "line" => line_sentence(alloc, fields),
         "clean" => clean_sentence(alloc, fields),
-        _ => Ok(None),
+        _ => Err(ReadError::NoCommand),
     }
 }
 
-fn snapshot_sentence(fields: Option<&str>) -> Option<Command>
-    ensures { option_map command_of result ≡ grammar.snapshot_sentence (fields_of fields.entry) }
+fn snapshot_sentence(fields: Option<&str>) -> Result<Command, ReadError>
+    ensures reads { IfOk result (λ r. grammar.snapshot_sentence (fields_of fields.entry) ≡ Some (command_of r)) }
+    ensures none { IsErrOf result ReadError.NoCommand → grammar.snapshot_sentence (fields_of fields.entry) ≡ None }
 {
     match fields {
-        None => Some(Command::Snapshot),
-        Some(_) => None,
+        None => Ok(Command::Snapshot),
+        Some(_) => Err(ReadError::NoCommand),
     }
 }
 
-fn read_sentence(alloc: Global, fields: Option<&str>) -> Result<Option<Command>, OutOfMemory>
-    ensures { IfOk result (λ said. option_map command_of said ≡ grammar.id_sentence plain.Read (fields_of fields.entry)) }
+fn read_sentence(alloc: Global, fields: Option<&str>) -> Result<Command, ReadError>
+    ensures reads { IfOk result (λ r. grammar.id_sentence plain.Read (fields_of fields.entry) ≡ Some (command_of r)) }
+    ensures none { IsErrOf result ReadError.NoCommand → grammar.id_sentence plain.Read (fields_of fields.entry) ≡ None }
 {
-    match number_and_id(alloc, fields)? {
-        Some((view, id)) => Ok(Some(Command::Read(view, id))),
-        None => Ok(None),
-    }
+    let (view, id) = number_and_id(alloc, fields)?;
+    Ok(Command::Read(view, id))
 }
 
-fn source_sentence(alloc: Global, fields: Option<&str>) -> Result<Option<Command>, OutOfMemory>
-    ensures { IfOk result (λ said. option_map command_of said ≡ grammar.id_sentence plain.Source (fields_of fields.entry)) }
+fn source_sentence(alloc: Global, fields: Option<&str>) -> Result<Command, ReadError>
+    ensures reads { IfOk result (λ r. grammar.id_sentence plain.Source (fields_of fields.entry) ≡ Some (command_of r)) }
+    ensures none { IsErrOf result ReadError.NoCommand → grammar.id_sentence plain.Source (fields_of fields.entry) ≡ None }
 {
-    match number_and_id(alloc, fields)? {
-        Some((view, id)) => Ok(Some(Command::Source(view, id))),
-        None => Ok(None),
-    }
+    let (view, id) = number_and_id(alloc, fields)?;
+    Ok(Command::Source(view, id))
 }
 
-fn path_sentence(alloc: Global, fields: Option<&str>) -> Result<Option<Command>, OutOfMemory>
-    ensures { IfOk result (λ said. option_map command_of said ≡ grammar.id_sentence plain.Path (fields_of fields.entry)) }
+fn path_sentence(alloc: Global, fields: Option<&str>) -> Result<Command, ReadError>
+    ensures reads { IfOk result (λ r. grammar.id_sentence plain.Path (fields_of fields.entry) ≡ Some (command_of r)) }
+    ensures none { IsErrOf result ReadError.NoCommand → grammar.id_sentence plain.Path (fields_of fields.entry) ≡ None }
 {
-    match number_and_id(alloc, fields)? {
-        Some((target, id)) => Ok(Some(Command::Path(target, id))),
-        None => Ok(None),
-    }
+    let (target, id) = number_and_id(alloc, fields)?;
+    Ok(Command::Path(target, id))
 }
 
-fn unmap_id_sentence(alloc: Global, fields: Option<&str>) -> Result<Option<Command>, OutOfMemory>
-    ensures { IfOk result (λ said. option_map command_of said ≡ grammar.id_sentence plain.UnmapId (fields_of fields.entry)) }
+fn unmap_id_sentence(alloc: Global, fields: Option<&str>) -> Result<Command, ReadError>
+    ensures reads { IfOk result (λ r. grammar.id_sentence plain.UnmapId (fields_of fields.entry) ≡ Some (command_of r)) }
+    ensures none { IsErrOf result ReadError.NoCommand → grammar.id_sentence plain.UnmapId (fields_of fields.entry) ≡ None }
 {
-    match number_and_id(alloc, fields)? {
-        Some((target, id)) => Ok(Some(Command::UnmapId(target, id))),
-        None => Ok(None),
-    }
+    let (target, id) = number_and_id(alloc, fields)?;
+    Ok(Command::UnmapId(target, id))
 }
 
-fn line_sentence(alloc: Global, fields: Option<&str>) -> Result<Option<Command>, OutOfMemory>
-    ensures { IfOk result (λ said. option_map command_of said ≡ grammar.line_sentence (fields_of fields.entry)) }
+fn line_sentence(alloc: Global, fields: Option<&str>) -> Result<Command, ReadError>
+    ensures reads { IfOk result (λ r. grammar.line_sentence (fields_of fields.entry) ≡ Some (command_of r)) }
+    ensures none { IsErrOf result ReadError.NoCommand → grammar.line_sentence (fields_of fields.entry) ≡ None }
 {
-    let Some((view, word, offset)) = three_fields(fields) else {
-        return Ok(None);
-    };
-    let Some(view) = number(view) else {
-        return Ok(None);
-    };
-    let Some(id) = id(alloc, word)? else {
-        return Ok(None);
-    };
-    match number(offset) {
-        Some(offset) => Ok(Some(Command::Line(view, id, offset))),
-        None => Ok(None),
-    }
+    let (view, word, offset) = three_fields(fields).ok_or(ReadError::NoCommand)?;
+    let view = number(view).ok_or(ReadError::NoCommand)?;
+    let id = id(alloc, word)?;
+    let offset = number(offset).ok_or(ReadError::NoCommand)?;
+    Ok(Command::Line(view, id, offset))
 }
 
-fn map_id_sentence(alloc: Global, fields: Option<&str>) -> Result<Option<Command>, OutOfMemory>
-    ensures { IfOk result (λ said. option_map command_of said ≡ grammar.map_id_sentence (fields_of fields.entry)) }
+fn map_id_sentence(alloc: Global, fields: Option<&str>) -> Result<Command, ReadError>
+    ensures reads { IfOk result (λ r. grammar.map_id_sentence (fields_of fields.entry) ≡ Some (command_of r)) }
+    ensures none { IsErrOf result ReadError.NoCommand → grammar.map_id_sentence (fields_of fields.entry) ≡ None }
 {
-    let Some((target, word, says)) = three_fields(fields) else {
-        return Ok(None);
-    };
-    let Some(target) = number(target) else {
-        return Ok(None);
-    };
-    let Some(id) = id(alloc, word)? else {
-        return Ok(None);
-    };
-    match content(alloc, says)? {
-        Some(content) => Ok(Some(Command::MapId(target, id, content))),
-        None => Ok(None),
-    }
+    let (first, word, says) = three_fields(fields).ok_or(ReadError::NoCommand)?;
+    let target = number(first).ok_or(ReadError::NoCommand)?;
+    let id = id(alloc, word)?;
+    let content = content(alloc, says)?;
+    Ok(Command::MapId(target, id, content))
 }
 
-fn map_sentence(alloc: Global, fields: Option<&str>) -> Result<Option<Command>, OutOfMemory>
-    ensures { IfOk result (λ said. option_map command_of said ≡ grammar.map_sentence (fields_of fields.entry)) }
+fn map_sentence(alloc: Global, fields: Option<&str>) -> Result<Command, ReadError>
+    ensures reads { IfOk result (λ r. grammar.map_sentence (fields_of fields.entry) ≡ Some (command_of r)) }
+    ensures none { IsErrOf result ReadError.NoCommand → grammar.map_sentence (fields_of fields.entry) ≡ None }
 {
-    let Some((target, word, says)) = three_fields(fields) else {
-        return Ok(None);
-    };
-    let Some(target) = number(target) else {
-        return Ok(None);
-    };
-    let Some(path) = path(alloc, word)? else {
-        return Ok(None);
-    };
-    let Some(content) = content(alloc, says)? else {
-        return Ok(None);
-    };
-    let answer = content.answer_at(alloc, path.as_str())?;
-    Ok(Some(Command::Edit(target, Item::MapPath(path, answer))))
+    let (first, word, says) = three_fields(fields).ok_or(ReadError::NoCommand)?;
+    let target = number(first).ok_or(ReadError::NoCommand)?;
+    let path = path(alloc, word)?;
+    let answer = content(alloc, says)?.answer_at(alloc, path.as_str())?;
+    Ok(Command::Edit(target, Item::MapPath(path, answer)))
 }
 
-fn unmap_sentence(alloc: Global, fields: Option<&str>) -> Result<Option<Command>, OutOfMemory>
-    ensures { IfOk result (λ said. option_map command_of said ≡ grammar.unmap_sentence (fields_of fields.entry)) }
+fn unmap_sentence(alloc: Global, fields: Option<&str>) -> Result<Command, ReadError>
+    ensures reads { IfOk result (λ r. grammar.unmap_sentence (fields_of fields.entry) ≡ Some (command_of r)) }
+    ensures none { IsErrOf result ReadError.NoCommand → grammar.unmap_sentence (fields_of fields.entry) ≡ None }
 {
-    let Some((target, word)) = two_fields(fields) else {
-        return Ok(None);
-    };
-    let Some(target) = number(target) else {
-        return Ok(None);
-    };
-    match path(alloc, word)? {
-        Some(path) => Ok(Some(Command::Edit(target, Item::UnmapPath(path)))),
-        None => Ok(None),
-    }
+    let (first, word) = two_fields(fields).ok_or(ReadError::NoCommand)?;
+    let target = number(first).ok_or(ReadError::NoCommand)?;
+    let path = path(alloc, word)?;
+    Ok(Command::Edit(target, Item::UnmapPath(path)))
 }
 
-fn clear_sentence(fields: Option<&str>) -> Option<Command>
-    ensures { option_map command_of result ≡ grammar.target_sentence (λ target. plain.Edit target Clear) (fields_of fields.entry) }
+fn clear_sentence(fields: Option<&str>) -> Result<Command, ReadError>
+    ensures reads { IfOk result (λ r. grammar.target_sentence (λ target. plain.Edit target Clear) (fields_of fields.entry) ≡ Some (command_of r)) }
+    ensures none { IsErrOf result ReadError.NoCommand → grammar.target_sentence (λ target. plain.Edit target Clear) (fields_of fields.entry) ≡ None }
 {
-    let target = number(one_field(fields)?)?;
-    Some(Command::Edit(target, Item::Clear))
+    let target = only_number(fields).ok_or(ReadError::NoCommand)?;
+    Ok(Command::Edit(target, Item::Clear))
 }
 
-fn paths_sentence(fields: Option<&str>) -> Option<Command>
-    ensures { option_map command_of result ≡ grammar.target_sentence plain.Paths (fields_of fields.entry) }
+fn paths_sentence(fields: Option<&str>) -> Result<Command, ReadError>
+    ensures reads { IfOk result (λ r. grammar.target_sentence plain.Paths (fields_of fields.entry) ≡ Some (command_of r)) }
+    ensures none { IsErrOf result ReadError.NoCommand → grammar.target_sentence plain.Paths (fields_of fields.entry) ≡ None }
 {
-    let target = number(one_field(fields)?)?;
-    Some(Command::Paths(target))
+    let target = only_number(fields).ok_or(ReadError::NoCommand)?;
+    Ok(Command::Paths(target))
 }
 
-fn ids_sentence(fields: Option<&str>) -> Option<Command>
-    ensures { option_map command_of result ≡ grammar.target_sentence plain.Ids (fields_of fields.entry) }
+fn ids_sentence(fields: Option<&str>) -> Result<Command, ReadError>
+    ensures reads { IfOk result (λ r. grammar.target_sentence plain.Ids (fields_of fields.entry) ≡ Some (command_of r)) }
+    ensures none { IsErrOf result ReadError.NoCommand → grammar.target_sentence plain.Ids (fields_of fields.entry) ≡ None }
 {
-    let target = number(one_field(fields)?)?;
-    Some(Command::Ids(target))
+    let target = only_number(fields).ok_or(ReadError::NoCommand)?;
+    Ok(Command::Ids(target))
 }
 
-fn rootless_sentence(alloc: Global, fields: Option<&str>) -> Result<Option<Command>, OutOfMemory>
-    ensures { IfOk result (λ said. option_map command_of said ≡ grammar.rootless_sentence (fields_of fields.entry)) }
+fn rootless_sentence(alloc: Global, fields: Option<&str>) -> Result<Command, ReadError>
+    ensures reads { IfOk result (λ r. grammar.rootless_sentence (fields_of fields.entry) ≡ Some (command_of r)) }
+    ensures none { IsErrOf result ReadError.NoCommand → grammar.rootless_sentence (fields_of fields.entry) ≡ None }
 {
-    let Some(word) = one_field(fields) else {
-        return Ok(None);
-    };
-    match virtual_path(alloc, word)? {
-        Some(vpath) => Ok(Some(Command::Rootless(vpath))),
-        None => Ok(None),
-    }
+    let word = one_field(fields).ok_or(ReadError::NoCommand)?;
+    let vpath = virtual_path(alloc, word)?;
+    Ok(Command::Rootless(vpath))
 }
 
-fn clean_sentence(alloc: Global, fields: Option<&str>) -> Result<Option<Command>, OutOfMemory>
-    ensures { IfOk result (λ said. option_map command_of said ≡ grammar.clean_sentence (fields_of fields.entry)) }
+fn clean_sentence(alloc: Global, fields: Option<&str>) -> Result<Command, ReadError>
+    ensures reads { IfOk result (λ r. grammar.clean_sentence (fields_of fields.entry) ≡ Some (command_of r)) }
+    ensures none { IsErrOf result ReadError.NoCommand → grammar.clean_sentence (fields_of fields.entry) ≡ None }
 {
-    let Some((target, revision, words)) = two_or_more_fields(fields) else {
-        return Ok(None);
-    };
-    let Some(target) = number(target) else {
-        return Ok(None);
-    };
-    let Some(revision) = number(revision) else {
-        return Ok(None);
-    };
-    match ids(alloc, words)? {
-        Some(ids) => Ok(Some(Command::Clean(target, revision, ids))),
-        None => Ok(None),
-    }
+    let (first, revision, words) = two_or_more_fields(fields).ok_or(ReadError::NoCommand)?;
+    let target = number(first).ok_or(ReadError::NoCommand)?;
+    let revision = number(revision).ok_or(ReadError::NoCommand)?;
+    let ids = ids(alloc, words)?;
+    Ok(Command::Clean(target, revision, ids))
 }
 
-fn notify_sentence(alloc: Global, fields: Option<&str>) -> Result<Option<Command>, OutOfMemory>
-    ensures { IfOk result (λ said. option_map command_of said ≡ grammar.notify_sentence (fields_of fields.entry)) }
+fn notify_sentence(alloc: Global, fields: Option<&str>) -> Result<Command, ReadError>
+    ensures reads { IfOk result (λ r. grammar.notify_sentence (fields_of fields.entry) ≡ Some (command_of r)) }
+    ensures none { IsErrOf result ReadError.NoCommand → grammar.notify_sentence (fields_of fields.entry) ≡ None }
 {
-    match changes(alloc, fields)? {
-        Some(changes) => Ok(Some(Command::Edit(0, Item::ChangeSet(changes)))),
-        None => Ok(None),
-    }
+    let changes = changes(alloc, fields)?;
+    Ok(Command::Edit(0, Item::ChangeSet(changes)))
 }
 
 /// The number and the id that two fields write.
-fn number_and_id(alloc: Global, fields: Option<&str>) -> Result<Option<(u64, IdWord)>, OutOfMemory>
-    ensures { IfOk result (λ both. option_map (λ f. (f.0, id_said f.1)) both ≡ grammar.number_and_id (fields_of fields.entry)) }
+fn number_and_id(alloc: Global, fields: Option<&str>) -> Result<(u64, IdWord), ReadError>
+    ensures reads { IfOk result (λ r. grammar.number_and_id (fields_of fields.entry) ≡ Some (r.0, id_said r.1)) }
+    ensures none { IsErrOf result ReadError.NoCommand → grammar.number_and_id (fields_of fields.entry) ≡ None }
 {
-    let Some((first, word)) = two_fields(fields) else {
-        return Ok(None);
-    };
-    let Some(number) = number(first) else {
-        return Ok(None);
-    };
-    match id(alloc, word)? {
-        Some(id) => Ok(Some((number, id))),
-        None => Ok(None),
-    }
+    let (first, word) = two_fields(fields).ok_or(ReadError::NoCommand)?;
+    let target = number(first).ok_or(ReadError::NoCommand)?;
+    let id = id(alloc, word)?;
+    Ok((target, id))
+}
+
+/// The number that the only field writes.
+fn only_number(fields: Option<&str>) -> Option<u64>
+    ensures { result ≡ option_and_then grammar.number_of (grammar.one_of (fields_of fields.entry)) }
+{
+    number(one_field(fields)?)
 }

@@ -1,11 +1,11 @@
 //! Contents and ids as lines write them.
-ghost use Rattle.std.specs.Prelude.{◌≡◌, map, IfOk};
-ghost use Rattle.std.specs.Option.{option_map};
+ghost use Rattle.std.specs.Prelude.{◌≡◌, map, IfOk, IsErrOf, Some, None};
 ghost use Rattle.tinymist_session.specs.Grammar as grammar;
 ghost use Rattle.tinymist_session.specs.Said.{content_said, id_said, fields_of};
 
 use crate::digits::decode;
 use crate::fields::first_field;
+use crate::read_error::ReadError;
 use crate::words::{after_sign, number, path};
 use std::alloc::Global;
 use ty_cells::FileSnapshot;
@@ -49,62 +49,58 @@ impl ContentWord {
 }
 
 /// A content: `=` and hexadecimal digits, two for each byte, or `!` and the name of an error.
-pub(crate) fn content(alloc: Global, word: &str) -> Result<Option<ContentWord>, OutOfMemory>
-    ensures { IfOk result (λ content. option_map content_said content ≡ grammar.content_of word.now) }
+pub(crate) fn content(alloc: Global, word: &str) -> Result<ContentWord, ReadError>
+    ensures reads { IfOk result (λ r. grammar.content_of word.now ≡ Some (content_said r)) }
+    ensures none { IsErrOf result ReadError.NoCommand → grammar.content_of word.now ≡ None }
 {
     match word {
-        "!not-found" => Ok(Some(ContentWord::Missing)),
-        "!access-denied" => Ok(Some(ContentWord::Refused(FileError::AccessDenied))),
-        "!is-directory" => Ok(Some(ContentWord::Refused(FileError::IsDirectory))),
-        "!not-source" => Ok(Some(ContentWord::Refused(FileError::NotSource))),
-        "!invalid-utf8" => Ok(Some(ContentWord::Refused(FileError::InvalidUtf8))),
-        "!other" => Ok(Some(ContentWord::Refused(FileError::Other(None)))),
+        "!not-found" => Ok(ContentWord::Missing),
+        "!access-denied" => Ok(ContentWord::Refused(FileError::AccessDenied)),
+        "!is-directory" => Ok(ContentWord::Refused(FileError::IsDirectory)),
+        "!not-source" => Ok(ContentWord::Refused(FileError::NotSource)),
+        "!invalid-utf8" => Ok(ContentWord::Refused(FileError::InvalidUtf8)),
+        "!other" => Ok(ContentWord::Refused(FileError::Other(None))),
         _ => match after_sign('=', word) {
             Some(digits) => bytes(alloc, digits),
-            None => Ok(None),
+            None => Err(ReadError::NoCommand),
         },
     }
 }
 
 /// The bytes of hexadecimal digits.
-fn bytes(alloc: Global, digits: &str) -> Result<Option<ContentWord>, OutOfMemory>
-    ensures { IfOk result (λ content. option_map content_said content ≡ grammar.bytes_of digits.now) }
+fn bytes(alloc: Global, digits: &str) -> Result<ContentWord, ReadError>
+    ensures reads { IfOk result (λ r. grammar.bytes_of digits.now ≡ Some (content_said r)) }
+    ensures none { IsErrOf result ReadError.NoCommand → grammar.bytes_of digits.now ≡ None }
 {
-    match decode(alloc, digits.as_bytes())? {
-        Some(bytes) => Ok(Some(ContentWord::Bytes(bytes))),
-        None => Ok(None),
-    }
+    let bytes = decode(alloc, digits.as_bytes())?.ok_or(ReadError::NoCommand)?;
+    Ok(ContentWord::Bytes(bytes))
 }
 
 /// An id: `#` and a tag, or a path.
-pub(crate) fn id(alloc: Global, word: &str) -> Result<Option<IdWord>, OutOfMemory>
-    ensures { IfOk result (λ id. option_map id_said id ≡ grammar.id_of word.now) }
+pub(crate) fn id(alloc: Global, word: &str) -> Result<IdWord, ReadError>
+    ensures reads { IfOk result (λ r. grammar.id_of word.now ≡ Some (id_said r)) }
+    ensures none { IsErrOf result ReadError.NoCommand → grammar.id_of word.now ≡ None }
 {
     if let Some(digits) = after_sign('#', word) {
-        return match number(digits) {
-            Some(tag) => Ok(Some(IdWord::Tag(tag))),
-            None => Ok(None),
-        };
+        let tag = number(digits).ok_or(ReadError::NoCommand)?;
+        return Ok(IdWord::Tag(tag));
     }
-    match path(alloc, word)? {
-        Some(path) => Ok(Some(IdWord::Path(path))),
-        None => Ok(None),
-    }
+    let path = path(alloc, word)?;
+    Ok(IdWord::Path(path))
 }
 
 /// The ids that all fields write.
-pub(crate) fn ids(alloc: Global, fields: Option<&str>) -> Result<Option<Vec<IdWord>>, OutOfMemory>
-    ensures { IfOk result (λ all. option_map (λ ids. map id_said ids.items) all ≡ grammar.ids_of (fields_of fields.entry)) }
+pub(crate) fn ids(alloc: Global, fields: Option<&str>) -> Result<Vec<IdWord>, ReadError>
+    ensures reads { IfOk result (λ r. grammar.ids_of (fields_of fields.entry) ≡ Some (map id_said r.items)) }
+    ensures none { IsErrOf result ReadError.NoCommand → grammar.ids_of (fields_of fields.entry) ≡ None }
 {
     let mut all = Vec::new(alloc);
     let mut left = fields;
     while let Some(text) = left {
         let (word, rest) = first_field(text);
-        let Some(id) = id(alloc, word)? else {
-            return Ok(None);
-        };
+        let id = id(alloc, word)?;
         all.push(id)?;
         left = rest;
     }
-    Ok(Some(all))
+    Ok(all)
 }

@@ -11,6 +11,7 @@ mod machine;
 mod memory;
 mod program;
 mod questions;
+mod read_error;
 mod reader;
 mod reply;
 mod session;

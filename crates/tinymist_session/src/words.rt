@@ -1,11 +1,12 @@
 //! The text of a line, and the words that stand in its fields.
-ghost use Rattle.std.specs.Prelude.{◌≡◌, ◌<◌, ◌∷◌, IfOk, IfSome, IfNone, None, true, false};
+ghost use Rattle.std.specs.Prelude.{◌≡◌, ◌<◌, ◌∷◌, IfOk, IfSome, IfNone, IsErrOf, Some, None, true, false};
 ghost use Rattle.std.specs.Option.{option_map, option_and_then};
 ghost use Rattle.std.specs.List.{list_all};
 ghost use Rattle.tinymist_session.specs.Grammar as grammar;
 
+use crate::read_error::ReadError;
 use std::alloc::Global;
-use ty_path::{CleanPath, OutOfMemory, is_absolute, is_clean};
+use ty_path::{CleanPath, is_absolute, is_clean};
 use ty_syntax::{PathFault, VirtualPath};
 
 /// The line as text, where it is UTF-8 without control bytes but tabs.
@@ -70,14 +71,15 @@ fn digits_from(start: u64, digits: &[u8]) -> Option<u64>
     Some(n)
 }
 
-/// The word, where it is an absolute path that is its cleaned form.
-pub(crate) fn path(alloc: Global, word: &str) -> Result<Option<CleanPath>, OutOfMemory>
-    ensures { IfOk result (λ path. path ≡ grammar.path_of word.now) }
+/// An absolute path that is its cleaned form.
+pub(crate) fn path(alloc: Global, word: &str) -> Result<CleanPath, ReadError>
+    ensures reads { IfOk result (λ r. grammar.path_of word.now ≡ Some r) }
+    ensures none { IsErrOf result ReadError.NoCommand → grammar.path_of word.now ≡ None }
 {
     if !is_absolute(word) {
-        return Ok(None);
+        return Err(ReadError::NoCommand);
     }
-    CleanPath::if_clean(alloc, word)
+    CleanPath::if_clean(alloc, word)?.ok_or(ReadError::NoCommand)
 }
 
 /// What stands after an ASCII sign.
@@ -89,16 +91,17 @@ pub(crate) fn after_sign(sign: char, word: &str) -> Option<&str>
     word.strip_prefix(sign)
 }
 
-/// The word, where it is a virtual path.
-pub(crate) fn virtual_path(alloc: Global, word: &str) -> Result<Option<VirtualPath>, OutOfMemory>
-    ensures { IfOk result (λ vpath. vpath ≡ grammar.vpath_of word.now) }
+/// A virtual path: an absolute path that is its cleaned form.
+pub(crate) fn virtual_path(alloc: Global, word: &str) -> Result<VirtualPath, ReadError>
+    ensures reads { IfOk result (λ r. grammar.vpath_of word.now ≡ Some r) }
+    ensures none { IsErrOf result ReadError.NoCommand → grammar.vpath_of word.now ≡ None }
 {
     if !is_absolute(word) || !is_clean(word) {
-        return Ok(None);
+        return Err(ReadError::NoCommand);
     }
     match VirtualPath::new(alloc, word) {
-        Ok(vpath) => Ok(Some(vpath)),
-        Err(PathFault::OutOfMemory) => Err(OutOfMemory),
-        Err(_) => Ok(None),
+        Ok(vpath) => Ok(vpath),
+        Err(PathFault::OutOfMemory) => Err(ReadError::OutOfMemory),
+        Err(_) => Err(ReadError::NoCommand),
     }
 }
