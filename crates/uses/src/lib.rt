@@ -7,6 +7,8 @@ mod fingerprints;
 mod packages;
 mod results;
 mod steps;
+#[cfg(test)]
+mod tests;
 mod views;
 mod watching;
 

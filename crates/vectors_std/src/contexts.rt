@@ -254,6 +254,39 @@ fn told<E: UntypedError>(
     })
 }
 
+/// The errors that say that memory ran out.
+#[derive(Clone, Copy)]
+enum Lack {
+    Error,
+    OutOfMemory,
+    AllocError,
+    Io,
+}
+
+static LACKS: [Lack; 3] = [Lack::Error, Lack::OutOfMemory, Lack::AllocError];
+
+static TEXT_LACKS: [Lack; 4] = [Lack::Error, Lack::OutOfMemory, Lack::AllocError, Lack::Io];
+
+/// The error that the call makes of that one.
+fn gone_of(alloc: Global, way: Way, lack: Lack) -> Result<Option<Error>, AllocError> {
+    match lack {
+        Lack::Error => gone(alloc, way, out_of_memory()),
+        Lack::OutOfMemory => gone(alloc, way, OutOfMemory),
+        Lack::AllocError => gone(alloc, way, AllocError),
+        Lack::Io => Ok(None),
+    }
+}
+
+/// The error that the call makes of that one by its text.
+fn told_of(alloc: Global, way: TextWay, lack: Lack) -> Result<Option<Error>, AllocError> {
+    match lack {
+        Lack::Error => told(alloc, way, out_of_memory()),
+        Lack::OutOfMemory => told(alloc, way, OutOfMemory),
+        Lack::AllocError => told(alloc, way, AllocError),
+        Lack::Io => told(alloc, way, io::Error::from(io::ErrorKind::OutOfMemory)),
+    }
+}
+
 /// The error says that memory ran out, and nothing more.
 fn expect_out_of_memory(
     rt: &impl Abort,
@@ -269,26 +302,34 @@ fn expect_out_of_memory(
     }
 }
 
+/// Each call that makes another error keeps that memory ran out.
+fn expect_gone(rt: &impl Abort, alloc: Global, lack: Lack) -> Result<(), AllocError> {
+    for way in &WAYS {
+        expect_out_of_memory(rt, alloc, gone_of(alloc, *way, lack)?)?;
+    }
+    Ok(())
+}
+
+/// Each call that makes a message keeps that memory ran out.
+fn expect_told(rt: &impl Abort, alloc: Global, lack: Lack) -> Result<(), AllocError> {
+    for way in &TEXT_WAYS {
+        expect_out_of_memory(rt, alloc, told_of(alloc, *way, lack)?)?;
+    }
+    Ok(())
+}
+
 #[test]
 fn out_of_memory_stays_that(rt: HostRuntime) -> Result<(), Fail> {
-    let alloc = rt.alloc();
-    for way in &WAYS {
-        expect_out_of_memory(&rt, alloc, gone(alloc, *way, out_of_memory())?)?;
-        expect_out_of_memory(&rt, alloc, gone(alloc, *way, OutOfMemory)?)?;
-        expect_out_of_memory(&rt, alloc, gone(alloc, *way, AllocError)?)?;
+    for lack in &LACKS {
+        expect_gone(&rt, rt.alloc(), *lack)?;
     }
     Ok(())
 }
 
 #[test]
 fn out_of_memory_is_no_message(rt: HostRuntime) -> Result<(), Fail> {
-    let alloc = rt.alloc();
-    for way in &TEXT_WAYS {
-        expect_out_of_memory(&rt, alloc, told(alloc, *way, out_of_memory())?)?;
-        expect_out_of_memory(&rt, alloc, told(alloc, *way, OutOfMemory)?)?;
-        expect_out_of_memory(&rt, alloc, told(alloc, *way, AllocError)?)?;
-        let refused = io::Error::from(io::ErrorKind::OutOfMemory);
-        expect_out_of_memory(&rt, alloc, told(alloc, *way, refused)?)?;
+    for lack in &TEXT_LACKS {
+        expect_told(&rt, rt.alloc(), *lack)?;
     }
     Ok(())
 }

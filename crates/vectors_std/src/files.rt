@@ -1,6 +1,6 @@
-//! Files and folders of the system: each call, in a folder of the test's own that is removed at its end.
+//! Folders of the system that are made for a while, and what causes print.
 use crate::errors::expect;
-use crate::steps::{Call, Step, below, take};
+use crate::steps::{Call, Row, Step, below, take};
 use std::alloc::Global;
 use std::env;
 use std::fs::File;
@@ -10,95 +10,64 @@ use std::test::Fail;
 use tinymist_std::paths::{metadata, read, temp_dir_in, write};
 use tinymist_std::{ErrorArgs, Result};
 
-/// Makes a file in the folder, and answers the folder.
-fn make_and_name<R: Files>(rt: &R, alloc: Global, folder: &str) -> Result<String> {
-    write(rt, alloc, below(alloc, folder, "a")?.as_str(), b"x")?;
-    below(alloc, folder, "")
+/// What is done in a new folder, whose path is the answer.
+#[derive(Clone, Copy)]
+enum Visit {
+    /// Nothing.
+    Names,
+    /// A file is made.
+    Makes,
+    /// A file is made, and then it fails with an error that names the folder.
+    Fails,
 }
 
-/// The path of a folder in which a file was made.
-fn gone<R: Files>(rt: &R, alloc: Global, base: &str) -> Result<String> {
-    temp_dir_in(
-        rt,
-        alloc,
-        base,
-        move |folder| make_and_name(rt, alloc, folder),
-    )
+impl Visit {
+    fn run<R: Files>(self, rt: &R, alloc: Global, folder: &str) -> Result<String> {
+        match self {
+            Visit::Names => below(alloc, folder, ""),
+            Visit::Makes => {
+                make(rt, alloc, folder)?;
+                below(alloc, folder, "")
+            }
+            Visit::Fails => fail(alloc, folder, make(rt, alloc, folder)),
+        }
+    }
+}
+
+/// Makes a file in the folder.
+fn make<R: Files>(rt: &R, alloc: Global, folder: &str) -> Result<()> {
+    write(rt, alloc, below(alloc, folder, "a")?.as_str(), b"x")
+}
+
+/// Fails with an error that names the folder, once the file is made.
+fn fail(alloc: Global, folder: &str, made: Result<()>) -> Result<String> {
+    match made {
+        Ok(()) => Err(
+            ErrorArgs::new(alloc)
+                .with(alloc, "folder", &folder)
+                .error("make_and_fail"),
+        ),
+        Err(error) => Err(error),
+    }
+}
+
+/// Visits a new folder in that of the path.
+fn visited<R: Files>(rt: &R, alloc: Global, path: &str, visit: Visit) -> Result<String> {
+    temp_dir_in(rt, alloc, path, move |folder| visit.run(rt, alloc, folder))
 }
 
 #[test]
 fn new_folders_are_gone_at_the_end(rt: HostRuntime) -> std::result::Result<(), Fail> {
     let base = env::temp_dir(&rt)?;
-    let folder = gone(&rt, rt.alloc(), base.as_str())?;
+    let folder = visited(&rt, rt.alloc(), base.as_str(), Visit::Makes)?;
     assert!(rt; metadata(&rt, rt.alloc(), folder.as_str()).is_err());
     Ok(())
-}
-
-/// The path of a new folder that was made in one of that name.
-fn new_in<R: Files>(rt: &R, alloc: Global, folder: &str, name: &str) -> Result<String> {
-    let parent = below(alloc, folder, name)?;
-    temp_dir_in(
-        rt,
-        alloc,
-        parent.as_str(),
-        move |folder| below(alloc, folder, ""),
-    )
-}
-
-/// The folder is made, and stays; the names of new folders carry its name, and differ.
-fn make_parents<R: Files<File = File> + Abort>(rt: &R, alloc: Global, folder: &str) -> Result<()> {
-    let first = new_in(rt, alloc, folder, "deep/target")?;
-    let second = new_in(rt, alloc, folder, "deep/target")?;
-    assert!(rt;
-        first.ends_with("-target/") || first.ends_with("-target"),
-        "{first}"
-    );
-    assert_ne!(rt; first.as_str(), second.as_str());
-    take(
-        rt,
-        alloc,
-        folder,
-        &[("deep/target", Step::Does(Call::RemoveDir))],
-    )
-}
-
-#[test]
-fn parents_of_new_folders_are_made(rt: HostRuntime) -> std::result::Result<(), Fail> {
-    let base = env::temp_dir(&rt)?;
-    let alloc = rt.alloc();
-    let rt = &rt;
-    temp_dir_in(
-        rt,
-        alloc,
-        base.as_str(),
-        move |folder| make_parents(rt, alloc, folder),
-    )?;
-    Ok(())
-}
-
-/// Makes a file in the folder, and then fails with an error that names the folder.
-fn make_and_fail<R: Files>(rt: &R, alloc: Global, folder: &str) -> Result<()> {
-    write(rt, alloc, below(alloc, folder, "a")?.as_str(), b"x")?;
-    Err(
-        ErrorArgs::new(alloc)
-            .with(alloc, "folder", &folder)
-            .error("make_and_fail"),
-    )
-}
-
-fn failed<R: Files>(rt: &R, alloc: Global, base: &str) -> Result<()> {
-    temp_dir_in(
-        rt,
-        alloc,
-        base,
-        move |folder| make_and_fail(rt, alloc, folder),
-    )
 }
 
 #[test]
 fn folders_of_failures_are_gone(rt: HostRuntime) -> std::result::Result<(), Fail> {
     let base = env::temp_dir(&rt)?;
-    let error = failed(&rt, rt.alloc(), base.as_str())
+    let error = visited(&rt, rt.alloc(), base.as_str(), Visit::Fails)
         .err()
         .ok_or("no error")?;
     assert_eq!(rt; error.loc(), "make_and_fail");
@@ -109,6 +78,31 @@ fn folders_of_failures_are_gone(rt: HostRuntime) -> std::result::Result<(), Fail
         _ => panic!(rt; "other arguments"),
     }
     Ok(())
+}
+
+/// The parent is empty, but for what was removed.
+static EMPTY: [Row; 1] = [("deep/target", Step::Does(Call::RemoveDir))];
+
+/// The folder is made, and stays; the names of new folders carry its name, and differ.
+pub fn make_parents<R: Files<File = File> + Abort>(
+    rt: &R,
+    alloc: Global,
+    folder: &str,
+) -> Result<()> {
+    let parent = below(alloc, folder, "deep/target")?;
+    let first = visited(rt, alloc, parent.as_str(), Visit::Names)?;
+    let second = visited(rt, alloc, parent.as_str(), Visit::Names)?;
+    expect_apart(rt, first.as_str(), second.as_str());
+    take(rt, alloc, folder, &EMPTY)
+}
+
+/// Both carry the name of their parent, and differ.
+fn expect_apart(rt: &impl Abort, first: &str, second: &str) {
+    assert!(rt;
+        first.ends_with("-target/") || first.ends_with("-target"),
+        "{first}"
+    );
+    assert_ne!(rt; first, second);
 }
 
 #[test]

@@ -1,15 +1,11 @@
 //! Files that are opened with a lock: a row names a file of a new folder, and what is done with its locks.
 use crate::fakes::{Refused, Refusing};
-use crate::steps::{Call, Step, act, below};
+use crate::steps::{Call, Step, act, below, expect_number, expect_read};
 use std::alloc::Global;
-use std::env;
-use std::env::Env;
 use std::fs::File;
 use std::io::{Read, Write};
 use std::process::Abort;
 use std::rt::Files;
-use std::test::Fail;
-use tinymist_std::paths::temp_dir_in;
 use tinymist_std::{FileLock, Filesystem, Result, WithContext, WithContextUntyped};
 
 /// A way to open a file with a lock.
@@ -81,7 +77,7 @@ type Row = (&'static str, Lock);
 
 /// The tables.
 #[derive(Clone, Copy)]
-enum Table {
+pub enum LockTable {
     /// Held locks refuse others.
     Held,
     /// Dropped locks are free beside clones.
@@ -102,19 +98,19 @@ enum Table {
     Nameless,
 }
 
-impl Table {
+impl LockTable {
     /// The rows of the table.
     fn rows(self) -> &'static [Row] {
         match self {
-            Table::Held => &HELD,
-            Table::Cloned => &CLONED,
-            Table::Readers => &READERS,
-            Table::Made => &MADE,
-            Table::Shared => &SHARED,
-            Table::SharedTwice => &SHARED_TWICE,
-            Table::Cleared => &CLEARED,
-            Table::NotCleared => &NOT_CLEARED,
-            Table::Nameless => &NAMELESS,
+            LockTable::Held => &HELD,
+            LockTable::Cloned => &CLONED,
+            LockTable::Readers => &READERS,
+            LockTable::Made => &MADE,
+            LockTable::Shared => &SHARED,
+            LockTable::SharedTwice => &SHARED_TWICE,
+            LockTable::Cleared => &CLEARED,
+            LockTable::NotCleared => &NOT_CLEARED,
+            LockTable::Nameless => &NAMELESS,
         }
     }
 }
@@ -144,7 +140,8 @@ fn open<R: Files<File = File> + Abort>(
     match step {
         Lock::Takes(way) => take(rt, held, way.open(rt, files, path)?),
         Lock::Gives(way, want) => {
-            assert_eq!(rt; way.open(rt, files, path)?.is_some(), want, "at {path}");
+            let given = way.open(rt, files, path)?.is_some();
+            expect_number(rt, path, given as u64, want as u64);
             Ok(())
         }
         _ => panic!(rt; "no lock"),
@@ -168,7 +165,7 @@ fn transfer(rt: &impl Abort, alloc: Global, mut file: &File, step: Lock) -> Resu
         Lock::Reads(want) => {
             let mut bytes = Vec::new(alloc);
             let _count = file.read_to_end(&mut bytes).context_ut(alloc, "transfer")?;
-            assert_eq!(rt; bytes.as_slice(), want);
+            expect_read(rt, "", bytes.as_slice(), want);
         }
         _ => panic!(rt; "nothing to write or read"),
     }
@@ -267,58 +264,44 @@ fn play<R: Files<File = File> + Abort>(
     }
 }
 
-/// Takes the rows of a table in their order, in a folder that is made.
-fn play_in<R: Files<File = File> + Abort>(
+/// Takes the rows in their order.
+fn play_rows<R: Files<File = File> + Abort>(
     rt: &R,
     alloc: Global,
-    folder: &str,
-    table: Table,
+    files: &Filesystem,
+    held: &mut Held,
+    rows: &[Row],
 ) -> Result<()> {
-    let files = Filesystem::new(below(alloc, folder, "locks")?);
-    files.create_dir(rt)?;
+    for row in rows {
+        play(rt, alloc, files, held, *row)?;
+    }
+    Ok(())
+}
+
+/// Takes the rows of a table with no lock held before.
+fn play_table<R: Files<File = File> + Abort>(
+    rt: &R,
+    alloc: Global,
+    files: &Filesystem,
+    table: LockTable,
+) -> Result<()> {
     let mut held = Held {
         locks: Vec::new(alloc),
         clones: Vec::new(alloc),
     };
-    for row in table.rows() {
-        play(rt, alloc, &files, &mut held, *row)?;
-    }
-    Ok(())
+    play_rows(rt, alloc, files, &mut held, table.rows())
 }
 
-static TABLES: [Table; 9] = [
-    Table::Held,
-    Table::Cloned,
-    Table::Readers,
-    Table::Made,
-    Table::Shared,
-    Table::SharedTwice,
-    Table::Cleared,
-    Table::NotCleared,
-    Table::Nameless,
-];
-
-#[test]
-fn tables_on_locks_hold(rt: HostRuntime) -> std::result::Result<(), Fail> {
-    for table in &TABLES {
-        play_anew(&rt, *table)?;
-    }
-    Ok(())
-}
-
-/// Takes the rows of a table in a new folder of the system's one for temporary files.
-fn play_anew<R: Files<File = File> + Abort + Env + AllocGlobal>(
+/// Takes the rows of a table in a folder that is made.
+pub fn play_in<R: Files<File = File> + Abort>(
     rt: &R,
-    table: Table,
+    alloc: Global,
+    folder: &str,
+    table: LockTable,
 ) -> Result<()> {
-    let alloc = rt.alloc();
-    let base = env::temp_dir(rt).context_ut(alloc, "play_anew")?;
-    temp_dir_in(
-        rt,
-        alloc,
-        base.as_str(),
-        move |folder| play_in(rt, alloc, folder, table),
-    )
+    let files = Filesystem::new(below(alloc, folder, "locks")?);
+    files.create_dir(rt)?;
+    play_table(rt, alloc, &files, table)
 }
 
 static HELD: [Row; 11] = [

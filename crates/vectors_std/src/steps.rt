@@ -198,11 +198,24 @@ pub fn expect_bytes<R: Files + Abort>(
     path: &str,
     want: &[u8],
 ) -> Result<()> {
-    let bytes = read_bytes(rt, alloc, path)?;
-    assert_eq!(rt; bytes.as_slice(), want, "at {path}");
-    let bytes = open_and_read(rt, alloc, path)?;
-    assert_eq!(rt; bytes.as_slice(), want, "at {path}");
+    expect_read(rt, path, read_bytes(rt, alloc, path)?.as_slice(), want);
+    expect_read(rt, path, open_and_read(rt, alloc, path)?.as_slice(), want);
     Ok(())
+}
+
+/// These bytes were read at the path.
+pub fn expect_read(rt: &impl Abort, path: &str, bytes: &[u8], want: &[u8]) {
+    assert_eq!(rt; bytes, want, "at {path}");
+}
+
+/// This number was found at the path.
+pub fn expect_number(rt: &impl Abort, path: &str, number: u64, want: u64) {
+    assert_eq!(rt; number, want, "at {path}");
+}
+
+/// That holds at the path.
+fn expect_so(rt: &impl Abort, path: &str, holds: bool) {
+    assert!(rt; holds, "at {path}");
 }
 
 /// The permissions of a file, with the bits for set-user-id and the like.
@@ -247,7 +260,7 @@ pub fn act<R: Files<File = File> + Abort>(
         Step::Fails(call) => expect_named(rt, call.run(rt, alloc, path), call.name(), path),
         Step::Copies(to, count) => {
             let to = below(alloc, folder, to)?;
-            assert_eq!(rt; copy(rt, alloc, path, to.as_str())?, count);
+            expect_number(rt, path, copy(rt, alloc, path, to.as_str())?, count);
         }
         Step::FailsToCopy(to) => {
             let to = below(alloc, folder, to)?;
@@ -269,11 +282,11 @@ pub fn act<R: Files<File = File> + Abort>(
 fn find<R: Files + Abort>(rt: &R, alloc: Global, path: &str, step: Step) -> Result<()> {
     match step {
         Step::Holds(bytes) => expect_bytes(rt, alloc, path, bytes)?,
-        Step::HasLength(length) => assert_eq!(rt; metadata(rt, alloc, path)?.len(), length),
-        Step::HasMode(want) => assert_eq!(rt; mode(rt, alloc, path)?, want, "at {path}"),
-        Step::IsOld(want) => assert_eq!(rt; is_old(rt, alloc, path)?, want, "at {path}"),
-        Step::IsFolder => assert!(rt; metadata(rt, alloc, path)?.is_dir()),
-        Step::IsMissing => assert!(rt; metadata(rt, alloc, path).is_err(), "at {path}"),
+        Step::HasLength(want) => expect_number(rt, path, metadata(rt, alloc, path)?.len(), want),
+        Step::HasMode(want) => expect_number(rt, path, mode(rt, alloc, path)? as u64, want as u64),
+        Step::IsOld(want) => expect_so(rt, path, is_old(rt, alloc, path)? == want),
+        Step::IsFolder => expect_so(rt, path, metadata(rt, alloc, path)?.is_dir()),
+        Step::IsMissing => expect_so(rt, path, metadata(rt, alloc, path).is_err()),
         _ => panic!(rt; "nothing to find"),
     }
     Ok(())

@@ -1,18 +1,9 @@
 //! Tables of rows on files, each for a new folder of its own.
-use crate::steps::{Call, Row, Step, take};
-use std::alloc::Global;
-use std::env;
-use std::env::Env;
-use std::fs::File;
-use std::process::Abort;
-use std::rt::Files;
-use std::test::Fail;
-use tinymist_std::paths::temp_dir_in;
-use tinymist_std::{Result, WithContextUntyped};
+use crate::steps::{Call, Row, Step};
 
 /// The tables.
 #[derive(Clone, Copy)]
-enum Table {
+pub enum FileTable {
     /// Files are written and read.
     Written,
     /// Folders are made and removed.
@@ -41,75 +32,25 @@ enum Table {
     NoneStays,
 }
 
-impl Table {
+impl FileTable {
     /// The rows of the table.
-    fn rows(self) -> &'static [Row] {
+    pub fn rows(self) -> &'static [Row] {
         match self {
-            Table::Written => &WRITTEN,
-            Table::Folders => &FOLDERS,
-            Table::Unchanged => &UNCHANGED,
-            Table::SameLength => &SAME_LENGTH,
-            Table::Failing => &FAILING,
-            Table::NotCopied => &NOT_COPIED,
-            Table::NotOpened => &NOT_OPENED,
-            Table::FolderStays => &FOLDER_STAYS,
-            Table::NothingBeside => &NOTHING_BESIDE,
-            Table::Permissions => &PERMISSIONS,
-            Table::LongName => &LONG_NAME,
-            Table::OldStays => &OLD_STAYS,
-            Table::NoneStays => &NONE_STAYS,
+            FileTable::Written => &WRITTEN,
+            FileTable::Folders => &FOLDERS,
+            FileTable::Unchanged => &UNCHANGED,
+            FileTable::SameLength => &SAME_LENGTH,
+            FileTable::Failing => &FAILING,
+            FileTable::NotCopied => &NOT_COPIED,
+            FileTable::NotOpened => &NOT_OPENED,
+            FileTable::FolderStays => &FOLDER_STAYS,
+            FileTable::NothingBeside => &NOTHING_BESIDE,
+            FileTable::Permissions => &PERMISSIONS,
+            FileTable::LongName => &LONG_NAME,
+            FileTable::OldStays => &OLD_STAYS,
+            FileTable::NoneStays => &NONE_STAYS,
         }
     }
-}
-
-static TABLES: [Table; 13] = [
-    Table::Written,
-    Table::Folders,
-    Table::Unchanged,
-    Table::SameLength,
-    Table::Failing,
-    Table::NotCopied,
-    Table::NotOpened,
-    Table::FolderStays,
-    Table::NothingBeside,
-    Table::Permissions,
-    Table::LongName,
-    Table::OldStays,
-    Table::NoneStays,
-];
-
-#[test]
-fn tables_on_files_hold(rt: HostRuntime) -> std::result::Result<(), Fail> {
-    for table in &TABLES {
-        take_anew(&rt, *table)?;
-    }
-    Ok(())
-}
-
-/// Takes the rows of a table in their order, in a new folder of the system's one for temporary files,
-/// which is removed afterwards.
-fn take_anew<R: Files<File = File> + Abort + Env + AllocGlobal>(
-    rt: &R,
-    table: Table,
-) -> Result<()> {
-    let alloc = rt.alloc();
-    let base = env::temp_dir(rt).context_ut(alloc, "take_anew")?;
-    temp_dir_in(
-        rt,
-        alloc,
-        base.as_str(),
-        move |folder| take_table(rt, alloc, folder, table),
-    )
-}
-
-/// Takes the rows of a table in a folder.
-fn take_table<R: Files<File = File> + Abort>(
-    rt: &R,
-    alloc: Global,
-    folder: &str,
-    table: Table,
-) -> Result<()> {
-    take(rt, alloc, folder, table.rows())
 }
 
 /// A name of 250 letters.
