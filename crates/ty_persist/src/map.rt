@@ -1,6 +1,6 @@
 //! An ordered map whose older versions stay: a share costs one step, and a value is put and a key is taken out in place
-//! where nobody shares what lies on the way to it. What others share is copied, and so is a path that grows, gets lower
-//! or turns twice.
+//! where nobody shares what lies on the way to it. What others share is copied, and so is a path that gets lower or turns
+//! twice.
 ghost use Rattle.std.specs.Prelude.{◌≡◌, ◌+◌, ◌*◌, ◌≤◌, ◌↔◌, [], length, IsTrue, is_some, IfOk, OnOk, OnErr};
 ghost use Rattle.std.specs.Option.{option_copied, option_map};
 ghost use Rattle.std.specs.Map.{lookup, remove_entry};
@@ -136,7 +136,7 @@ impl<K: Ord + Share, V: Share> Map<K, V> {
                 Ok(None)
             }
             Outcome::Waits(entry) => {
-                self.tree = self.tree.with_entry(self.alloc, entry, steps)?;
+                self.tree.add(self.alloc, entry, steps)?;
                 self.len = grown;
                 Ok(None)
             }
