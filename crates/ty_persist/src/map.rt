@@ -1,6 +1,6 @@
 //! An ordered map whose older versions stay: a share costs one step, and a value is put and a key is taken out in place
-//! where nobody shares what lies on the way to it. What others share is copied, and so is a path that gets lower or turns
-//! twice.
+//! where nobody shares what lies on the way to it. What others share is copied, and so is a path that gets lower or
+//! turns twice.
 ghost use Rattle.std.specs.Prelude.{◌≡◌, ◌+◌, ◌*◌, ◌≤◌, ◌↔◌, [], length, IsTrue, is_some, IfOk, OnOk, OnErr};
 ghost use Rattle.std.specs.Option.{option_copied, option_map};
 ghost use Rattle.std.specs.Map.{lookup, remove_entry};
