@@ -4,3 +4,4 @@ pub mod Low
 pub mod Probes
 pub mod Puts
 pub mod Turns
+pub mod Cuts

@@ -4,3 +4,4 @@ pub mod Seen
 pub mod Rest
 pub mod Texts
 pub mod Puts
+pub mod Cuts

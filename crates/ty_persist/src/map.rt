@@ -1,5 +1,6 @@
-//! An ordered map whose older versions stay: a share costs one step, and a value is put in place where nobody shares
-//! what lies on the way to its key. What others share is copied, and so is a path that grows or turns twice.
+//! An ordered map whose older versions stay: a share costs one step, and a value is put and a key is taken out in place
+//! where nobody shares what lies on the way to it. What others share is copied, and so is a path that gets lower or
+//! turns twice.
 ghost use Rattle.std.specs.Prelude.{◌≡◌, ◌+◌, ◌*◌, ◌≤◌, ◌↔◌, [], length, IsTrue, is_some, IfOk, OnOk, OnErr};
 ghost use Rattle.std.specs.Option.{option_copied, option_map};
 ghost use Rattle.std.specs.Map.{lookup, remove_entry};
@@ -8,7 +9,7 @@ ghost use Rattle.std.specs.Map.Iter.{ShowsInOrder, deref_pair};
 ghost use Rattle.ty_persist.specs.Contents.{put_entry, IsAscending, IsLow};
 ghost use Rattle.ty_persist.specs.Texts.{is_text, has_text};
 
-use crate::tree::{Outcome, Tree};
+use crate::tree::{Outcome, Removal, Tree};
 use crate::{Iter, Steps};
 use std::alloc::Global;
 use std::marker::Model;
@@ -135,14 +136,15 @@ impl<K: Ord + Share, V: Share> Map<K, V> {
                 Ok(None)
             }
             Outcome::Waits(entry) => {
-                self.tree = self.tree.with_entry(self.alloc, entry, steps)?;
+                self.tree.add(self.alloc, entry, steps)?;
                 self.len = grown;
                 Ok(None)
             }
         }
     }
 
-    /// Takes a key out, and answers a share of its value. Out of memory leaves the map as it was.
+    /// Takes a key out, and answers a share of its value. The key is looked up once where nobody shares what lies on
+    /// the way to it, and that is written in place. Out of memory leaves the map as it was.
     pub fn remove<L: Ledger>(
         &mut self,
         key: &K,
@@ -155,11 +157,14 @@ impl<K: Ord + Share, V: Share> Map<K, V> {
         ensures low { IsLow self.old }
         ensures cost { steps.new ≤ steps.old + 4 * (self.old.height + 1) }
     {
-        match share_option(self.alloc, self.tree.get(key))? {
-            None => Ok(None),
-            Some(before) => {
-                let tree = self.tree.without_key(self.alloc, key, steps)?;
-                self.tree = tree;
+        match self.tree.cut(self.alloc, key, steps)? {
+            Removal::Absent => Ok(None),
+            Removal::Gone(before) => {
+                self.len -= 1;
+                Ok(Some(before))
+            }
+            Removal::Waits(before) => {
+                self.tree = self.tree.without_key(self.alloc, key, steps)?;
                 self.len -= 1;
                 Ok(Some(before))
             }
@@ -207,16 +212,6 @@ impl<V: Share> Map<CleanPath, V> {
         ensures { option_copied result ≡ lookup (has_text path.now) self.now.entries }
     {
         self.tree.get_text(path)
-    }
-}
-
-fn share_option<V: Share>(alloc: Global, value: Option<&V>) -> Result<Option<V>, OutOfMemory>
-    ensures same { IfOk result (λ again. option_map V.seen again ≡ option_map V.seen (option_copied value.entry)) }
-    ensures there { IfOk result (λ again. is_some again ≡ is_some (option_copied value.entry)) }
-{
-    match value {
-        Some(value) => Ok(Some(value.share(alloc)?)),
-        None => Ok(None),
     }
 }
 

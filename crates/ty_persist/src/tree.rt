@@ -19,8 +19,10 @@ use std::sync::Arc;
 use std::sync::ledger::Ledger;
 use ty_path::{OutOfMemory, Share};
 
+mod cut;
 mod put;
 
+pub(crate) use cut::Removal;
 pub(crate) use put::Outcome;
 
 /// Entries in the order of their keys, as a tree whose nodes are shared.

@@ -5,7 +5,7 @@ ghost use Rattle.std.specs.Arc.{arc_value};
 ghost use Rattle.std.specs.Option.{option_map};
 ghost use Rattle.std.specs.Map.{lookup};
 ghost use Rattle.std.specs.BTreeMap.{is_at};
-ghost use Rattle.ty_persist.specs.Contents.{put_entry};
+ghost use Rattle.ty_persist.specs.Contents.{put_entry, IsLow};
 ghost use Rattle.ty_persist.specs.Shape.{node_contents, IsBalanced};
 ghost use Rattle.ty_persist.specs.Puts.{IsPut, IsBefore, WaitsWithin};
 
@@ -64,6 +64,67 @@ fn set_entry<K: Ord + Share, V: Share, L: Ledger>(
     };
     own.key = key;
     Ok(Some(mem::replace(&mut own.value, value)))
+}
+
+impl<K: Ord + Share, V: Share> Tree<K, V> {
+    // Adds an entry to a tree that others share, or whose sides aren't level.
+    fn add_in_copies<L: Ledger>(
+        &mut self,
+        alloc: Global,
+        entry: Arc<Entry<K, V>>,
+        steps: &mut Steps<L>,
+    ) -> Result<(), OutOfMemory>
+        requires height_fits { self.old.height < 2 ^ 63 }
+        ensures ok { OnOk result (self.new.entries ≡ put_entry K.cmp self.old.entries (arc_value entry).key (arc_value entry).value) }
+        ensures err { OnErr result (self.new ≡ self.old) }
+        ensures height { (self.old.height ≤ self.new.height) × (self.new.height ≤ self.old.height + 1) }
+        ensures low { IsLow self.old → IsLow self.new }
+        ensures cost { steps.new ≤ steps.old + 3 * self.old.height + 1 }
+    {
+        *self = self.with_entry(alloc, entry, steps)?;
+        Ok(())
+    }
+
+    // Adds an entry. A level node that nobody shares grows where it is.
+    pub(crate) fn add<L: Ledger>(
+        &mut self,
+        alloc: Global,
+        entry: Arc<Entry<K, V>>,
+        steps: &mut Steps<L>,
+    ) -> Result<(), OutOfMemory>
+        requires height_fits { self.old.height < 2 ^ 63 }
+        ensures ok { OnOk result (self.new.entries ≡ put_entry K.cmp self.old.entries (arc_value entry).key (arc_value entry).value) }
+        ensures err { OnErr result (self.new ≡ self.old) }
+        ensures height { (self.old.height ≤ self.new.height) × (self.new.height ≤ self.old.height + 1) }
+        ensures low { IsLow self.old → IsLow self.new }
+        ensures cost { steps.new ≤ steps.old + 3 * self.old.height + 1 }
+    {
+        let Root::Fork(n) = &mut self.root else {
+            return self.add_in_copies(alloc, entry, steps);
+        };
+        let Some(node) = Arc::get_mut(n) else {
+            return self.add_in_copies(alloc, entry, steps);
+        };
+        if node.left.height() != node.right.height() {
+            return self.add_in_copies(alloc, entry, steps);
+        }
+        match entry.key.cmp(&node.entry.key) {
+            Ordering::Less => {
+                node.left.add(alloc, entry, steps)?;
+                node.height = node.left.height() + 1;
+                Ok(())
+            }
+            Ordering::Equal => {
+                node.entry = entry;
+                Ok(())
+            }
+            Ordering::Greater => {
+                node.right.add(alloc, entry, steps)?;
+                node.height = node.right.height() + 1;
+                Ok(())
+            }
+        }
+    }
 }
 
 // Takes the left side off a child, which gets the entry and the right side of the node above it.
@@ -157,7 +218,7 @@ fn settle_left<K: Ord + Share, V: Share, L: Ledger>(
     if !has_room_left(node, &entry.key) {
         return Ok(Outcome::Waits(entry));
     }
-    node.left = node.left.with_entry(alloc, entry, steps)?;
+    node.left.add(alloc, entry, steps)?;
     Ok(Outcome::Added)
 }
 
@@ -252,7 +313,7 @@ fn settle_right<K: Ord + Share, V: Share, L: Ledger>(
     if !has_room_right(node, &entry.key) {
         return Ok(Outcome::Waits(entry));
     }
-    node.right = node.right.with_entry(alloc, entry, steps)?;
+    node.right.add(alloc, entry, steps)?;
     Ok(Outcome::Added)
 }
 

@@ -16,7 +16,7 @@ returns-clause-ok g c =
     let key = rw c.deref.ensures at (c.has_room_right.ensures.key yes) in
     let absent = subst (λ es. lookup (is_at (g.K.Ord.cmp e.key)) es ≡ None) (sym same) c.requires.absent in
     let none = absent_right g.met.K.Ord.total e.key e.value m.left.entries (pair m.entry.value) m.right.entries good.0 absent key in
-    let put = put_in_right g.met.K.Ord.total e.key e.value m.left.entries (pair m.entry.value) m.right.entries good.0 Added c.in_ok-node.field-0.entries key (none, c.in_ok-node.ensures.entries) in
+    let put = put_in_right g.met.K.Ord.total e.key e.value m.left.entries (pair m.entry.value) m.right.entries good.0 Added c.add.new.self.entries key (none, c.in_ok-add.ensures.ok) in
     (c.requires.absent, rw same at put.1)
 
 pub returns-clause-balanced : goal.returns-clause-balanced
@@ -29,4 +29,4 @@ returns-clause-balanced g c =
     let key = rw c.deref.ensures at (c.has_room_right.ensures.key yes) in
     let absent = subst (λ es. lookup (is_at (g.K.Ord.cmp e.key)) es ≡ None) (sym same) c.requires.absent in
     let none = absent_right g.met.K.Ord.total e.key e.value m.left.entries (pair m.entry.value) m.right.entries good.0 absent key in
-    grown_right g.met.K.Ord.total e.key e.value m good c.in_ok-node.field-0 key none c.in_ok-node.ensures.entries c.in_ok-node.ensures.height.0 c.in_ok-node.ensures.height.1 (c.has_room_right.ensures.lower yes)
+    grown_right g.met.K.Ord.total e.key e.value m good c.add.new.self key none c.in_ok-add.ensures.ok c.add.ensures.height.0 c.add.ensures.height.1 (c.has_room_right.ensures.lower yes)
