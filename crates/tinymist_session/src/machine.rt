@@ -174,9 +174,7 @@ impl Machine {
         ensures { IfOk result (λ id. id ≡ plain.id_for self.now.tags.ids.items (id_said word.now)) }
     {
         match word {
-            IdWord::Path(path) => {
-                WorkspaceResolver::file_with_parent_root(self.alloc, path.as_str())
-            }
+            IdWord::Path(path) => WorkspaceResolver::file_of(self.alloc, path),
             IdWord::Tag(tag) => match self.tags.at(*tag) {
                 Some(id) => Ok(Some(id.share(self.alloc)?)),
                 None => Ok(None),
