@@ -9,8 +9,8 @@ use Rattle.ty_model.specs.Places.{place_of}
 use Rattle.ty_model.specs.Disk.{Told}
 use Rattle.ty_model.specs.Space.{Space as Whole}
 use Rattle.ty_model.specs.Standing.{are_clean}
-use Rattle.tinymist_session.specs.Command.{IdWord}
-use Rattle.tinymist_session.specs.Reply.{Reply, PathList, IdList, IsClean, BadView, BadRevision, reply_to, place_reply}
+use Rattle.session_grammar.specs.Command.{Target, IdWord}
+use Rattle.session_grammar.specs.Reply.{Reply, PathList, IdList, IsClean, BadView, BadRevision, reply_to, place_reply}
 use Rattle.tinymist_session.specs.Machine as machine
 use Rattle.tinymist_session.specs.Machine.{Stepped, view_at, space_at, id_for, ids_for, replied, read_in, read_step, source_at, source_in, source_step, path_step, path_list, id_list, has_revision, clean_reply, clean_step}
 use Rattle.tinymist_plain.specs.Kept.{Listed, listed, version_of, layers_of, looked, all_clean, space_of, part_of, IsKept, view_kept, space_kept}
@@ -42,7 +42,7 @@ module _ (p : State) (s : machine.State) (is : IsKept p s) where
 
   -- ---- questions of targets
 
-  module _ (target : ℕ) where
+  module _ (target : Target) where
     pub paths_say : (space : Space) → Some space ≡ space_kept p target → PathList (map (λ e. e.0) (layers_of space.latest).by_path) ≡ machine.listed path_list (space_at s target)
     paths_say space here =
         let there = space_found p s is target space here in

@@ -8,8 +8,8 @@ use Rattle.ty_model.specs.Version.{same_id}
 use Rattle.ty_model.specs.Places.{detached_entry}
 use Rattle.ty_model.specs.Disk.{Told}
 use Rattle.ty_model.specs.Space.{Space}
-use Rattle.tinymist_session.specs.Command.{IdWord}
-use Rattle.tinymist_session.specs.Reply.{Reply}
+use Rattle.session_grammar.specs.Command.{Target, IdWord}
+use Rattle.session_grammar.specs.Reply.{Reply}
 use Rattle.tinymist_session.specs.Machine as machine
 use Rattle.tinymist_session.specs.Machine.{Stepped, view_at, space_at, with_asked, asking, on_named, id_for, ids_for, read_in, read_step, source_in, source_step, path_step, clean_step}
 use Rattle.tinymist_plain.specs.Kept.{part_of, IsKept}
@@ -58,8 +58,8 @@ module _ (p : State) (s : machine.State) (is : IsKept p s) where
         | false ↦ asking_keeps k w id e
       ])
 
-  pub path_keeps : (target : ℕ) (word : IdWord) → IsKept p (path_step s target word).state
+  pub path_keeps : (target : Target) (word : IdWord) → IsKept p (path_step s target word).state
   path_keeps target word = keeps (space_at s target) (id_for s.tagged word) _ (λ w id e. is)
 
-  pub clean_keeps : (target r : ℕ) (words : List IdWord) → IsKept p (clean_step s target r words).state
+  pub clean_keeps : (target : Target) (r : ℕ) (words : List IdWord) → IsKept p (clean_step s target r words).state
   clean_keeps target r words = keeps (space_at s target) (ids_for s.tagged words) _ (λ w ids e. is)

@@ -3,8 +3,8 @@ use Rattle.std.proofs.Common.{◌≡◌, ℕ, ◌+◌, ◌<◌, ◌≤◌, ◌==
 use Rattle.std.proofs.lemmas.Bool.{eqb-true}
 use Rattle.std.proofs.lemmas.List.{map-append, drop_all, take-map, length-map}
 use Rattle.std.proofs.lemmas.List.Folds.{list_any-append}
-use Rattle.tinymist_session.specs.Lf.{IsLine}
-use Rattle.tinymist_session.specs.Command.{Command}
+use Rattle.session_lines.specs.Lf.{IsLine}
+use Rattle.session_grammar.specs.Command.{Command}
 use Rattle.tinymist_session.specs.Session.{Limits, lines_of, good_line, good_commands, before, lines_within, commands_of, end_with, end_of}
 use Rattle.tinymist_session.proofs.Lines.{lines-lf, lines-last}
 

@@ -5,8 +5,8 @@ use Rattle.std.specs.Option.{option_map, is_some}
 use Rattle.std.proofs.lemmas.Option.{slice_get-map}
 use Rattle.ty_model.specs.Values.{Id}
 use Rattle.ty_model.specs.Space.{Space as Whole}
-use Rattle.tinymist_session.specs.Command.{IdWord}
-use Rattle.tinymist_session.specs.Reply.{BadView, BadId}
+use Rattle.session_grammar.specs.Command.{Target, Live, View, IdWord}
+use Rattle.session_grammar.specs.Reply.{BadView, BadId}
 use Rattle.tinymist_session.specs.Machine as machine
 use Rattle.tinymist_session.specs.Machine.{Stepped, view_at, space_at, on_named, id_for, ids_for}
 use Rattle.tinymist_plain.specs.Kept.{Listed, space_of, part_of, IsKept, view_kept, space_kept}
@@ -45,11 +45,9 @@ module _ (p : State) (s : machine.State) (is : IsKept p s) where
     | false ↦ sym (slice_get-map space_of p.views.items (k - 1)) ∙ ap (λ (vs : List (ℕ × List Listed)). slice_get vs (k - 1)) is.views ∙ slice_get-map part_of s.views (k - 1)
   ]
 
-  spaces_agree : (target : ℕ) → option_map space_of (space_kept p target) ≡ option_map part_of (space_at s target)
-  spaces_agree target = elim (target == 0) as (λ b. option_map space_of (cond b (Some p.live) (view_kept p.views.items target)) ≡ option_map part_of (cond b (Some s.live) (view_at s.views target))) [
-    | true ↦ ap Some is.live
-    | false ↦ views_agree target
-  ]
+  spaces_agree : (target : Target) → option_map space_of (space_kept p target) ≡ option_map part_of (space_at s target)
+  spaces_agree Live = ap Some is.live
+  spaces_agree (View k) = views_agree k
 
   pub view_found : (k : ℕ) (view : Space) → Some view ≡ view_kept p.views.items k → Stands view (view_at s.views k)
   view_found k view e = stands (view_at s.views k) view (ap (option_map space_of) e ∙ views_agree k)
@@ -57,10 +55,10 @@ module _ (p : State) (s : machine.State) (is : IsKept p s) where
   pub view_missing : (k : ℕ) → None ≡ view_kept p.views.items k → view_at s.views k ≡ None
   view_missing k e = missing (view_at s.views k) (ap (option_map space_of) e ∙ views_agree k)
 
-  pub space_found : (target : ℕ) (space : Space) → Some space ≡ space_kept p target → Stands space (space_at s target)
+  pub space_found : (target : Target) (space : Space) → Some space ≡ space_kept p target → Stands space (space_at s target)
   space_found target space e = stands (space_at s target) space (ap (option_map space_of) e ∙ spaces_agree target)
 
-  pub space_missing : (target : ℕ) → None ≡ space_kept p target → space_at s target ≡ None
+  pub space_missing : (target : Target) → None ≡ space_kept p target → space_at s target ≡ None
   space_missing target e = missing (space_at s target) (ap (option_map space_of) e ∙ spaces_agree target)
 
   -- ---- what words name

@@ -4,8 +4,8 @@ use Rattle.std.proofs.lemmas.List.{drop_all}
 use Rattle.std.specs.Option.{option_map, option_and_then}
 use Rattle.ty_model.specs.Values.{Id}
 use Rattle.tinymist_session.specs.Machine.{id_for, ids_for}
-use Rattle.tinymist_session.specs.Said.{id_said}
-use Rattle.tinymist_session.specs.declared.content.IdWord.{IdWord}
+use Rattle.session_grammar.specs.Plain.{plain_id}
+use Rattle.session_grammar.specs.declared.contents.IdWord.{IdWord}
 
 -- these ids, and then more
 abbrev pub with_more : List Id → Option (List Id) → Option (List Id)
@@ -24,16 +24,16 @@ module _ (tagged : List Id) (words : List IdWord) (i : ℕ) (ids : List Id) wher
     one_more id None = refl
     one_more id (Some later) = ap Some (append_assoc ids (id ∷ []) later)
 
-    pub goes_on : (id : Id) → Some id ≡ id_for tagged (id_said word) → with_more (ids ++ id ∷ []) (ids_for tagged (map id_said (drop (i + 1) words))) ≡ with_more ids (ids_for tagged (map id_said (drop i words)))
+    pub goes_on : (id : Id) → Some id ≡ id_for tagged (plain_id word) → with_more (ids ++ id ∷ []) (ids_for tagged (map plain_id (drop (i + 1) words))) ≡ with_more ids (ids_for tagged (map plain_id (drop i words)))
     goes_on id named =
-        one_more id (ids_for tagged (map id_said (drop (i + 1) words)))
-        ∙ ap (λ (o : Option Id). with_more ids (option_and_then (λ id. option_map (λ later. id ∷ later) (ids_for tagged (map id_said (drop (i + 1) words)))) o)) named
-        ∙ ap (λ (ws : List IdWord). with_more ids (ids_for tagged (map id_said ws))) (sym here)
+        one_more id (ids_for tagged (map plain_id (drop (i + 1) words)))
+        ∙ ap (λ (o : Option Id). with_more ids (option_and_then (λ id. option_map (λ later. id ∷ later) (ids_for tagged (map plain_id (drop (i + 1) words)))) o)) named
+        ∙ ap (λ (ws : List IdWord). with_more ids (ids_for tagged (map plain_id ws))) (sym here)
 
-    pub fails : None ≡ id_for tagged (id_said word) → None ≡ with_more ids (ids_for tagged (map id_said (drop i words)))
+    pub fails : None ≡ id_for tagged (plain_id word) → None ≡ with_more ids (ids_for tagged (map plain_id (drop i words)))
     fails none =
-        ap (λ (o : Option Id). with_more ids (option_and_then (λ id. option_map (λ later. id ∷ later) (ids_for tagged (map id_said (drop (i + 1) words)))) o)) none
-        ∙ ap (λ (ws : List IdWord). with_more ids (ids_for tagged (map id_said ws))) (sym here)
+        ap (λ (o : Option Id). with_more ids (option_and_then (λ id. option_map (λ later. id ∷ later) (ids_for tagged (map plain_id (drop (i + 1) words)))) o)) none
+        ∙ ap (λ (ws : List IdWord). with_more ids (ids_for tagged (map plain_id ws))) (sym here)
 
-  pub all_named : length words ≤ i → Some ids ≡ with_more ids (ids_for tagged (map id_said (drop i words)))
-  all_named past = ap Some (sym (append-nil ids)) ∙ ap (λ (ws : List IdWord). with_more ids (ids_for tagged (map id_said ws))) (sym (drop_all i words past))
+  pub all_named : length words ≤ i → Some ids ≡ with_more ids (ids_for tagged (map plain_id (drop i words)))
+  all_named past = ap Some (sym (append-nil ids)) ∙ ap (λ (ws : List IdWord). with_more ids (ids_for tagged (map plain_id ws))) (sym (drop_all i words past))

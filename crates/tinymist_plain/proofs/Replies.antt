@@ -18,8 +18,8 @@ use Rattle.ty_model.specs.Batch.{MapPath, UnmapPath, Clear, ChangeSet, ChangeVie
 use Rattle.ty_model.specs.Batch as batch
 use Rattle.ty_model.specs.Places.{id_by_parent}
 use Rattle.ty_model.specs.Space.{Space}
-use Rattle.tinymist_session.specs.Command.{Command, Edit, MapId, UnmapId, Rootless, Snapshot, Read, Source, Line, Paths, Ids, Path, Clean, PathWord, TagWord}
-use Rattle.tinymist_session.specs.Reply.{Reply, AtRevision, ViewNumber, BadView, BadId, reply_to, reply_line}
+use Rattle.session_grammar.specs.Command.{Target, Live, Command, Edit, MapId, UnmapId, Rootless, Snapshot, Read, Source, Line, Paths, Ids, Path, Clean, PathWord, TagWord}
+use Rattle.session_grammar.specs.Reply.{Reply, AtRevision, ViewNumber, BadView, BadId, reply_to, reply_line}
 use Rattle.tinymist_session.specs.Machine.{State, opening, step, view_at, with_asked, on_named, read_in}
 use Rattle.tinymist_session.specs.Session.{default_limits, replies_from, replies_to, commands_of}
 use Rattle.tinymist_plain.specs.Kept.{Lists, Listed, listed, same_lists, looked}
@@ -47,10 +47,10 @@ shown v = version_by v.0 v.1
 
 -- ---- a read
 
-abbrev reply_of : Option (ℕ × Entries) → Option Id → Reply
-reply_of None id = BadView
-reply_of (Some view) None = BadId
-reply_of (Some view) (Some id) = reply_to (looked (shown view) no_files id)
+abbrev plain_reply : Option (ℕ × Entries) → Option Id → Reply
+plain_reply None id = BadView
+plain_reply (Some view) None = BadId
+plain_reply (Some view) (Some id) = reply_to (looked (shown view) no_files id)
 
 -- ---- all replies
 
@@ -60,7 +60,7 @@ viewed views k = cond (k == 0) None (slice_get views (k - 1))
 -- each maps a path of the live state, takes a snapshot, or reads a path
 abbrev AreSimple : List Command → Type 0
 AreSimple [] = ⊤
-AreSimple (Edit target (MapPath path answer) ∷ commands) = (target ≡ 0) × AreSimple commands
+AreSimple (Edit target (MapPath path answer) ∷ commands) = (target ≡ Live) × AreSimple commands
 AreSimple (Snapshot ∷ commands) = AreSimple commands
 AreSimple (Read k (PathWord path) ∷ commands) = AreSimple commands
 AreSimple (command ∷ commands) = ⊥
@@ -73,7 +73,7 @@ answers n live views (Edit target (MapPath path answer) ∷ commands) =
     (reply_line (AtRevision n) ++ answers n live views commands)
     (reply_line (AtRevision (n + 1)) ++ answers (n + 1) more views commands)
 answers n live views (Snapshot ∷ commands) = reply_line (ViewNumber (length views + 1)) ++ answers n live (views ++ (n, live) ∷ []) commands
-answers n live views (Read k (PathWord path) ∷ commands) = reply_line (reply_of (viewed views k) (id_by_parent path)) ++ answers n live views commands
+answers n live views (Read k (PathWord path) ∷ commands) = reply_line (plain_reply (viewed views k) (id_by_parent path)) ++ answers n live views commands
 answers n live views (command ∷ commands) = []
 
 -- a state that has these entries
@@ -108,7 +108,7 @@ views_agree spaces views k is = elim (k == 0) as (λ b. option_map now_of (cond 
 some_same : {A : Type 0} (x y : A) → Some x ≡ Some y → x ≡ y
 some_same x y e = cc
 
-reads : (s : State) (k : ℕ) (named : Option Id) (w : Option Space) (view : Option (ℕ × Entries)) → option_map now_of w ≡ option_map shown view → reply_of view named ≡ (on_named s w named (read_in s no_files k)).reply
+reads : (s : State) (k : ℕ) (named : Option Id) (w : Option Space) (view : Option (ℕ × Entries)) → option_map now_of w ≡ option_map shown view → plain_reply view named ≡ (on_named s w named (read_in s no_files k)).reply
 reads s k named None None is = refl
 reads s k named None (Some view) is = absurd (cc)
 reads s k named (Some w) None is = absurd (cc)
@@ -138,7 +138,7 @@ counts s views is = sym (length-map views shown) ∙ ap length (sym is) ∙ leng
 answers-are : (commands : List Command) → AreSimple commands → (n : ℕ) (live : Entries) (views : List (ℕ × Entries)) (s : State) → Shows n live views s → answers n live views commands ≡ replies_from no_files s commands
 answers-are [] simple n live views s h = refl
 answers-are (Edit target (MapPath path answer) ∷ commands) simple n live views s h =
-    let after = (step s no_files (Edit 0 (MapPath path answer))).state in
+    let after = (step s no_files (Edit Live (MapPath path answer))).state in
     let more : Entries = put text_cmp path answer live in
     let same : Bool = same_lists (with_paths live) (with_paths more) in
     let now : listed after.live.now ≡ cond same (version_by n live) (version_by (n + 1) more) = commit_is s.live.number n live s.live.now path answer h.live_is in
@@ -152,7 +152,7 @@ answers-are (Edit target (MapPath path answer) ∷ commands) simple n live views
           ap (λ (v : Listed). reply_line (AtRevision v.revision) ++ answers (n + 1) more views commands) (sym is)
           ∙ ap (λ (bytes : List ℕ). reply_line (AtRevision after.live.now.revision) ++ bytes) (answers-are commands simple.1 (n + 1) more views after (record { live_is = is; views_are = h.views_are }))
     ] refl
-    ∙ ap (λ (t : ℕ). replies_from no_files s (Edit t (MapPath path answer) ∷ commands)) (sym simple.0)
+    ∙ ap (λ (t : Target). replies_from no_files s (Edit t (MapPath path answer) ∷ commands)) (sym simple.0)
 answers-are (Edit target (UnmapPath path) ∷ commands) simple n live views s h = absurd simple
 answers-are (Edit target (batch.MapId id answer) ∷ commands) simple n live views s h = absurd simple
 answers-are (Edit target (batch.UnmapId id) ∷ commands) simple n live views s h = absurd simple

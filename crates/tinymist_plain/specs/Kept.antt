@@ -13,6 +13,7 @@ use Rattle.ty_model.specs.Disk.{Told}
 use Rattle.ty_model.specs.LookUp.{Asks, said_or, answer_by}
 use Rattle.ty_model.specs.Standing.{AtPath, nothing_at, Entries, same_entries_at}
 use Rattle.ty_model.specs.Space as model_space
+use Rattle.session_grammar.specs.Command.{Target, Live, View}
 use Rattle.tinymist_session.specs.Machine as machine
 use Rattle.tinymist_plain.specs.Lists.{pairs, id_pairs}
 use Rattle.tinymist_plain.specs.declared.version.Version.{Version}
@@ -136,5 +137,6 @@ abbrev pub view_kept : List Space → ℕ → Option Space
 view_kept views k = if k == 0 then None else slice_get views (k - 1)
 
 -- the space that is kept of a target
-abbrev pub space_kept : State → ℕ → Option Space
-space_kept p target = if target == 0 then Some p.live else view_kept p.views.items target
+abbrev pub space_kept : State → Target → Option Space
+space_kept p Live = Some p.live
+space_kept p (View k) = view_kept p.views.items k

@@ -1,7 +1,7 @@
 //! What a line's content says of a path.
 ghost use Rattle.std.specs.Prelude.{◌≡◌, IfOk};
-ghost use Rattle.tinymist_session.specs.Grammar as grammar;
-ghost use Rattle.tinymist_session.specs.Said.{content_said};
+ghost use Rattle.session_grammar.specs.Grammar as grammar;
+ghost use Rattle.session_grammar.specs.Plain.{plain_content};
 
 use std::alloc::Global;
 use tinymist_session::ContentWord;
@@ -15,7 +15,7 @@ pub(crate) fn answer_at(
     path: &str,
     content: &ContentWord,
 ) -> Result<FileSnapshot, OutOfMemory>
-    ensures { IfOk result (λ answer. answer ≡ grammar.answer_at path.now (content_said content.now)) }
+    ensures { IfOk result (λ answer. answer ≡ grammar.answer_at path.now (plain_content content.now)) }
 {
     match content {
         ContentWord::Bytes(bytes) => {

@@ -1,7 +1,8 @@
 //! An input cut into lines, and the commands of its good lines.
 ghost use Rattle.std.specs.Prelude.{◌≡◌, map, IfOk};
 ghost use Rattle.std.specs.Option.{option_map};
-ghost use Rattle.tinymist_session.specs.Said.{command_of, limits_said};
+ghost use Rattle.session_grammar.specs.Plain.{plain_command};
+ghost use Rattle.tinymist_session.specs.Arguments.{plain_limits};
 ghost use Rattle.tinymist_session.specs.Session as plain;
 
 use std::alloc::Global;
@@ -34,7 +35,7 @@ pub(crate) fn good_commands(
     limits: &Limits,
     lines: &[Vec<u8>],
 ) -> Result<Vec<Command>, OutOfMemory>
-    ensures { IfOk result (λ commands. map command_of commands.items ≡ plain.good_commands (limits_said limits.now) (map (λ l. l.items) lines.now)) }
+    ensures { IfOk result (λ commands. map plain_command commands.items ≡ plain.good_commands (plain_limits limits.now) (map (λ l. l.items) lines.now)) }
 {
     let mut commands = Vec::new(alloc);
     for line in lines {
@@ -46,9 +47,9 @@ pub(crate) fn good_commands(
     Ok(commands)
 }
 
-/// The command of a line, where it isn't too long and is a sentence.
+/// The command of a line, where it isn't too long and is a command.
 fn good_line(alloc: Global, limits: &Limits, line: &[u8]) -> Result<Option<Command>, OutOfMemory>
-    ensures { IfOk result (λ said. option_map command_of said ≡ plain.good_line (limits_said limits.now) line.now) }
+    ensures { IfOk result (λ said. option_map plain_command said ≡ plain.good_line (plain_limits limits.now) line.now) }
 {
     if line.len() <= limits.max_line as usize {
         read_command(alloc, line)

@@ -4,17 +4,17 @@ ghost use Rattle.std.specs.Option.{option_map};
 ghost use Rattle.ty_model.specs.Disk.{Told, IsFixed};
 ghost use Rattle.ty_model.specs.Space as model;
 ghost use Rattle.tinymist_session.specs.Machine as machine;
-ghost use Rattle.tinymist_session.specs.Reply.{reply_to, text_reply, line_reply, place_reply};
-ghost use Rattle.tinymist_session.specs.Said.{id_said, reply_of};
+ghost use Rattle.session_grammar.specs.Reply.{reply_to, text_reply, line_reply, place_reply};
+ghost use Rattle.session_grammar.specs.Plain.{plain_id, plain_reply, plain_target};
 ghost use Rattle.tinymist_plain.specs.Kept.{IsKept, space_of, part_of};
 ghost use Rattle.tinymist_plain.specs.Stands.{place_said};
 
 use crate::place::{Place, place_of};
-use crate::source::{place_reply, source_for};
+use crate::source::{place_reply, text_for};
 use crate::space::Space;
 use crate::state::State;
 use std::alloc::Global;
-use tinymist_session::{IdWord, Reply};
+use tinymist_session::{IdWord, Reply, Target};
 use ty_cells::{FileSnapshot, PathAccessModel};
 use ty_path::{OutOfMemory, Share};
 use ty_syntax::{FileFault, FileId};
@@ -28,7 +28,7 @@ impl State {
         view: u64,
         word: &IdWord,
     ) -> Result<Reply, OutOfMemory>
-        ensures reply { (told : Told) (s : machine.State) → M.told disk.old ≡ Some told → IsKept self.now s → IfOk result (λ r. reply_of r ≡ (machine.read_step s told view (id_said word.now)).reply) }
+        ensures reply { (told : Told) (s : machine.State) → M.told disk.old ≡ Some told → IsKept self.now s → IfOk result (λ r. plain_reply r ≡ (machine.read_step s told view (plain_id word.now)).reply) }
         ensures left { (told : Told) → M.told disk.old ≡ Some told → IsFixed told → M.told disk.new ≡ Some told }
     {
         let Some(space) = self.view(view) else {
@@ -48,7 +48,7 @@ impl State {
         view: u64,
         word: &IdWord,
     ) -> Result<Reply, OutOfMemory>
-        ensures reply { (told : Told) (s : machine.State) → M.told disk.old ≡ Some told → IsKept self.now s → IfOk result (λ r. reply_of r ≡ (machine.source_step s told view (id_said word.now) text_reply).reply) }
+        ensures reply { (told : Told) (s : machine.State) → M.told disk.old ≡ Some told → IsKept self.now s → IfOk result (λ r. plain_reply r ≡ (machine.source_step s told view (plain_id word.now) text_reply).reply) }
         ensures left { (told : Told) → M.told disk.old ≡ Some told → IsFixed told → M.told disk.new ≡ Some told }
     {
         let Some(space) = self.view(view) else {
@@ -57,8 +57,8 @@ impl State {
         let Some(id) = self.id_of(alloc, word)? else {
             return Ok(Reply::BadId);
         };
-        match source_for(alloc, &space.latest, disk, &id) {
-            Ok(source) => Ok(Reply::Text(source)),
+        match text_for(alloc, &space.latest, disk, &id) {
+            Ok(text) => Ok(Reply::Text(text)),
             Err(FileFault::File(error)) => Ok(Reply::Fails(error)),
             Err(FileFault::OutOfMemory) => Err(OutOfMemory),
         }
@@ -73,7 +73,7 @@ impl State {
         word: &IdWord,
         offset: u64,
     ) -> Result<Reply, OutOfMemory>
-        ensures reply { (told : Told) (s : machine.State) → M.told disk.old ≡ Some told → IsKept self.now s → IfOk result (λ r. reply_of r ≡ (machine.source_step s told view (id_said word.now) (line_reply offset)).reply) }
+        ensures reply { (told : Told) (s : machine.State) → M.told disk.old ≡ Some told → IsKept self.now s → IfOk result (λ r. plain_reply r ≡ (machine.source_step s told view (plain_id word.now) (line_reply offset)).reply) }
         ensures left { (told : Told) → M.told disk.old ≡ Some told → IsFixed told → M.told disk.new ≡ Some told }
     {
         let Some(space) = self.view(view) else {
@@ -82,16 +82,16 @@ impl State {
         let Some(id) = self.id_of(alloc, word)? else {
             return Ok(Reply::BadId);
         };
-        match source_for(alloc, &space.latest, disk, &id) {
-            Ok(source) => Ok(place_reply(source.lines(), offset)),
+        match text_for(alloc, &space.latest, disk, &id) {
+            Ok(text) => place_reply(alloc, &id, text, offset),
             Err(FileFault::File(error)) => Ok(Reply::Fails(error)),
             Err(FileFault::OutOfMemory) => Err(OutOfMemory),
         }
     }
 
     /// Lists the paths of the overlay of a target.
-    pub(crate) fn list_paths(&self, alloc: Global, target: u64) -> Result<Reply, OutOfMemory>
-        ensures { (s : machine.State) → IsKept self.now s → IfOk result (λ r. reply_of r ≡ machine.listed machine.path_list (machine.space_at s target)) }
+    pub(crate) fn list_paths(&self, alloc: Global, target: Target) -> Result<Reply, OutOfMemory>
+        ensures { (s : machine.State) → IsKept self.now s → IfOk result (λ r. plain_reply r ≡ machine.listed machine.path_list (machine.space_at s (plain_target target))) }
     {
         match self.space(target) {
             Some(space) => Ok(Reply::PathList(space.latest.paths(alloc)?)),
@@ -100,8 +100,8 @@ impl State {
     }
 
     /// Lists the ids of the overlay of a target.
-    pub(crate) fn list_ids(&self, alloc: Global, target: u64) -> Result<Reply, OutOfMemory>
-        ensures { (s : machine.State) → IsKept self.now s → IfOk result (λ r. reply_of r ≡ machine.listed machine.id_list (machine.space_at s target)) }
+    pub(crate) fn list_ids(&self, alloc: Global, target: Target) -> Result<Reply, OutOfMemory>
+        ensures { (s : machine.State) → IsKept self.now s → IfOk result (λ r. plain_reply r ≡ machine.listed machine.id_list (machine.space_at s (plain_target target))) }
     {
         match self.space(target) {
             Some(space) => Ok(Reply::IdList(space.latest.ids(alloc)?)),
@@ -113,10 +113,10 @@ impl State {
     pub(crate) fn path_in(
         &self,
         alloc: Global,
-        target: u64,
+        target: Target,
         word: &IdWord,
     ) -> Result<Reply, OutOfMemory>
-        ensures { (s : machine.State) → IsKept self.now s → IfOk result (λ r. reply_of r ≡ (machine.path_step s target (id_said word.now)).reply) }
+        ensures { (s : machine.State) → IsKept self.now s → IfOk result (λ r. plain_reply r ≡ (machine.path_step s (plain_target target) (plain_id word.now)).reply) }
     {
         if !self.has_space(target) {
             return Ok(Reply::BadView);
@@ -132,11 +132,11 @@ impl State {
     pub(crate) fn clean_in(
         &self,
         alloc: Global,
-        target: u64,
+        target: Target,
         revision: u64,
         words: &[IdWord],
     ) -> Result<Reply, OutOfMemory>
-        ensures { (s : machine.State) → IsKept self.now s → IfOk result (λ r. reply_of r ≡ (machine.clean_step s target revision (map id_said words.now)).reply) }
+        ensures { (s : machine.State) → IsKept self.now s → IfOk result (λ r. plain_reply r ≡ (machine.clean_step s (plain_target target) revision (map plain_id words.now)).reply) }
     {
         let Some(space) = self.space(target) else {
             return Ok(Reply::BadView);
@@ -149,7 +149,7 @@ impl State {
 
     /// The ids that words name, where each names one.
     fn ids_of(&self, alloc: Global, words: &[IdWord]) -> Result<Option<Vec<FileId>>, OutOfMemory>
-        ensures { IfOk result (λ ids. option_map (λ found. found.items) ids ≡ machine.ids_for self.now.tagged.items (map id_said words.now)) }
+        ensures { IfOk result (λ ids. option_map (λ found. found.items) ids ≡ machine.ids_for self.now.tagged.items (map plain_id words.now)) }
     {
         let mut ids = Vec::new(alloc);
         for word in words {
@@ -164,7 +164,7 @@ impl State {
 
 /// The reply to a read that has this answer.
 fn reply_to(alloc: Global, answer: FileSnapshot) -> Result<Reply, OutOfMemory>
-    ensures { IfOk result (λ r. reply_of r ≡ reply_to answer) }
+    ensures { IfOk result (λ r. plain_reply r ≡ reply_to answer) }
 {
     match answer.into_content(alloc) {
         Ok(bytes) => Ok(Reply::Contents(bytes)),
@@ -175,7 +175,7 @@ fn reply_to(alloc: Global, answer: FileSnapshot) -> Result<Reply, OutOfMemory>
 
 /// The reply with where an id stands.
 fn stands_reply(alloc: Global, id: &FileId, place: Place) -> Result<Reply, OutOfMemory>
-    ensures { IfOk result (λ r. reply_of r ≡ place_reply id.now (place_said place)) }
+    ensures { IfOk result (λ r. plain_reply r ≡ place_reply id.now (place_said place)) }
 {
     match place {
         Place::At(path) => Ok(Reply::AtPath(path)),
@@ -191,7 +191,7 @@ fn clean_since(
     revision: u64,
     ids: &[FileId],
 ) -> Result<Reply, OutOfMemory>
-    ensures { (s : model.Space) → space_of space.now ≡ part_of s → IfOk result (λ r. reply_of r ≡ machine.clean_reply s revision ids.now) }
+    ensures { (s : model.Space) → space_of space.now ≡ part_of s → IfOk result (λ r. plain_reply r ≡ machine.clean_reply s revision ids.now) }
 {
     if revision < 2 || revision > space.latest.revision {
         return Ok(Reply::BadRevision);

@@ -1,7 +1,8 @@
 //! A whole session in memory: the replies to an input, and its end.
 ghost use Rattle.std.specs.Prelude.{◌≡◌, ◌-◌, ◌^◌, ◌<◌, take, map, IfOk};
 ghost use Rattle.ty_model.specs.Disk.{Told, IsFixed};
-ghost use Rattle.tinymist_session.specs.Said.{command_of, limits_said};
+ghost use Rattle.session_grammar.specs.Plain.{plain_command};
+ghost use Rattle.tinymist_session.specs.Arguments.{plain_limits};
 ghost use Rattle.tinymist_session.specs.Machine.{opening};
 ghost use Rattle.tinymist_session.specs.Session as plain;
 ghost use Rattle.tinymist_session.specs.Session.{end_of, replies_to};
@@ -41,8 +42,8 @@ pub fn plain_session<M: PathAccessModel>(
     limits: &Limits,
     disk: &mut M,
 ) -> Result<PlainSession, OutOfMemory>
-    ensures end { IfOk result (λ s. ended s.end ≡ end_of (limits_said limits.now) input.now) }
-    ensures replies { (told : Told) → M.told disk.old ≡ Some told → IsFixed told → IfOk result (λ s. s.replies.items ≡ replies_to (limits_said limits.now) told input.now) }
+    ensures end { IfOk result (λ s. ended s.end ≡ end_of (plain_limits limits.now) input.now) }
+    ensures replies { (told : Told) → M.told disk.old ≡ Some told → IsFixed told → IfOk result (λ s. s.replies.items ≡ replies_to (plain_limits limits.now) told input.now) }
     ensures left { (told : Told) → M.told disk.old ≡ Some told → IsFixed told → M.told disk.new ≡ Some told }
 {
     let lines = lines_of(alloc, input)?;
@@ -81,7 +82,7 @@ fn replies_to<M: PathAccessModel>(
     disk: &mut M,
     commands: &[Command],
 ) -> Result<Vec<u8>, OutOfMemory>
-    ensures replies { (told : Told) → M.told disk.old ≡ Some told → IsFixed told → IfOk result (λ bytes. bytes.items ≡ plain.replies_from told opening (map command_of commands.now)) }
+    ensures replies { (told : Told) → M.told disk.old ≡ Some told → IsFixed told → IfOk result (λ bytes. bytes.items ≡ plain.replies_from told opening (map plain_command commands.now)) }
     ensures left { (told : Told) → M.told disk.old ≡ Some told → IsFixed told → M.told disk.new ≡ Some told }
 {
     let mut state = State::opening(alloc)?;

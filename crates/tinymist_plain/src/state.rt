@@ -4,16 +4,17 @@ ghost use Rattle.std.specs.Option.{option_copied, is_some};
 ghost use Rattle.ty_model.specs.Batch as batch;
 ghost use Rattle.ty_model.specs.Disk.{Told, IsFixed};
 ghost use Rattle.tinymist_vfs.specs.Items.{clean_item};
-ghost use Rattle.tinymist_session.specs.Grammar.{answer_at};
+ghost use Rattle.session_grammar.specs.Command.{View};
+ghost use Rattle.session_grammar.specs.Grammar.{answer_at};
 ghost use Rattle.tinymist_session.specs.Machine as machine;
-ghost use Rattle.tinymist_session.specs.Said.{command_of, content_said, id_said, reply_of};
+ghost use Rattle.session_grammar.specs.Plain.{plain_command, plain_content, plain_id, plain_reply, plain_target};
 ghost use Rattle.tinymist_plain.specs.Kept.{IsKept, top_revision, view_kept, space_kept};
 
 use crate::content::answer_at;
 use crate::place::id_by_parent;
 use crate::space::Space;
 use std::alloc::Global;
-use tinymist_session::{Command, ContentWord, IdWord, Reply};
+use tinymist_session::{Command, ContentWord, IdWord, Reply, Target};
 use tinymist_vfs::Item;
 use ty_cells::PathAccessModel;
 use ty_path::{OutOfMemory, Share};
@@ -60,8 +61,8 @@ impl State {
         requires revision { top_revision self.old < 2 ^ 64 - 1 }
         requires space { self.old.next_space < 2 ^ 64 - 1 }
         requires tag { self.old.next_tag < 2 ^ 64 - 1 }
-        ensures reply { (told : Told) (s : machine.State) → M.told disk.old ≡ Some told → IsKept self.old s → IfOk result (λ r. reply_of r ≡ (machine.step s told (command_of command.now)).reply) }
-        ensures state { (told : Told) (s : machine.State) → M.told disk.old ≡ Some told → IsKept self.old s → OnOk result (IsKept self.new (machine.step s told (command_of command.now)).state) }
+        ensures reply { (told : Told) (s : machine.State) → M.told disk.old ≡ Some told → IsKept self.old s → IfOk result (λ r. plain_reply r ≡ (machine.step s told (plain_command command.now)).reply) }
+        ensures state { (told : Told) (s : machine.State) → M.told disk.old ≡ Some told → IsKept self.old s → OnOk result (IsKept self.new (machine.step s told (plain_command command.now)).state) }
         ensures left { (told : Told) → M.told disk.old ≡ Some told → IsFixed told → M.told disk.new ≡ Some told }
         ensures revision { top_revision self.new ≤ top_revision self.old + 1 }
         ensures space { self.new.next_space ≤ self.old.next_space + 1 }
@@ -86,19 +87,41 @@ impl State {
     }
 
     /// Edits a target, and answers its revision.
-    fn edit_target(&mut self, alloc: Global, target: u64, item: &Item) -> Result<Reply, OutOfMemory>
+    fn edit_target(
+        &mut self,
+        alloc: Global,
+        target: Target,
+        item: &Item,
+    ) -> Result<Reply, OutOfMemory>
         requires { top_revision self.old < 2 ^ 64 - 1 }
-        ensures reply { (s : machine.State) → IsKept self.old s → IfOk result (λ r. reply_of r ≡ (machine.edit_step s target (clean_item item.now)).reply) }
-        ensures state { (s : machine.State) → IsKept self.old s → OnOk result (IsKept self.new (machine.edit_step s target (clean_item item.now)).state) }
+        ensures reply { (s : machine.State) → IsKept self.old s → IfOk result (λ r. plain_reply r ≡ (machine.edit_step s (plain_target target) (clean_item item.now)).reply) }
+        ensures state { (s : machine.State) → IsKept self.old s → OnOk result (IsKept self.new (machine.edit_step s (plain_target target) (clean_item item.now)).state) }
         ensures revision { top_revision self.new ≤ top_revision self.old + 1 }
         ensures space { self.new.next_space ≡ self.old.next_space }
         ensures tag { self.new.next_tag ≡ self.old.next_tag }
     {
-        if target == 0 {
-            self.live.edit(alloc, item)?;
-            return Ok(Reply::AtRevision(self.live.latest.revision));
+        match target {
+            Target::Live => {
+                self.live.edit(alloc, item)?;
+                Ok(Reply::AtRevision(self.live.latest.revision))
+            }
+            Target::View(view) => self.edit_view(alloc, view, item),
         }
-        let k = (target - 1) as usize;
+    }
+
+    /// Edits a view, and answers its revision.
+    fn edit_view(&mut self, alloc: Global, view: u64, item: &Item) -> Result<Reply, OutOfMemory>
+        requires { top_revision self.old < 2 ^ 64 - 1 }
+        ensures reply { (s : machine.State) → IsKept self.old s → IfOk result (λ r. plain_reply r ≡ (machine.edit_step s (View view) (clean_item item.now)).reply) }
+        ensures state { (s : machine.State) → IsKept self.old s → OnOk result (IsKept self.new (machine.edit_step s (View view) (clean_item item.now)).state) }
+        ensures revision { top_revision self.new ≤ top_revision self.old + 1 }
+        ensures space { self.new.next_space ≡ self.old.next_space }
+        ensures tag { self.new.next_tag ≡ self.old.next_tag }
+    {
+        if view == 0 {
+            return Ok(Reply::BadView);
+        }
+        let k = (view - 1) as usize;
         if k >= self.views.len() {
             return Ok(Reply::BadView);
         }
@@ -110,13 +133,13 @@ impl State {
     fn map_id(
         &mut self,
         alloc: Global,
-        target: u64,
+        target: Target,
         word: &IdWord,
         content: &ContentWord,
     ) -> Result<Reply, OutOfMemory>
         requires { top_revision self.old < 2 ^ 64 - 1 }
-        ensures reply { (s : machine.State) → IsKept self.old s → IfOk result (λ r. reply_of r ≡ (machine.id_edit_step s target (id_said word.now) (λ id. batch.MapId id (answer_at id.vpath (content_said content.now)))).reply) }
-        ensures state { (s : machine.State) → IsKept self.old s → OnOk result (IsKept self.new (machine.id_edit_step s target (id_said word.now) (λ id. batch.MapId id (answer_at id.vpath (content_said content.now)))).state) }
+        ensures reply { (s : machine.State) → IsKept self.old s → IfOk result (λ r. plain_reply r ≡ (machine.id_edit_step s (plain_target target) (plain_id word.now) (λ id. batch.MapId id (answer_at id.vpath (plain_content content.now)))).reply) }
+        ensures state { (s : machine.State) → IsKept self.old s → OnOk result (IsKept self.new (machine.id_edit_step s (plain_target target) (plain_id word.now) (λ id. batch.MapId id (answer_at id.vpath (plain_content content.now)))).state) }
         ensures revision { top_revision self.new ≤ top_revision self.old + 1 }
         ensures space { self.new.next_space ≡ self.old.next_space }
         ensures tag { self.new.next_tag ≡ self.old.next_tag }
@@ -132,10 +155,15 @@ impl State {
     }
 
     /// Takes an id out of a target's overlay, and answers its revision.
-    fn unmap_id(&mut self, alloc: Global, target: u64, word: &IdWord) -> Result<Reply, OutOfMemory>
+    fn unmap_id(
+        &mut self,
+        alloc: Global,
+        target: Target,
+        word: &IdWord,
+    ) -> Result<Reply, OutOfMemory>
         requires { top_revision self.old < 2 ^ 64 - 1 }
-        ensures reply { (s : machine.State) → IsKept self.old s → IfOk result (λ r. reply_of r ≡ (machine.id_edit_step s target (id_said word.now) batch.UnmapId).reply) }
-        ensures state { (s : machine.State) → IsKept self.old s → OnOk result (IsKept self.new (machine.id_edit_step s target (id_said word.now) batch.UnmapId).state) }
+        ensures reply { (s : machine.State) → IsKept self.old s → IfOk result (λ r. plain_reply r ≡ (machine.id_edit_step s (plain_target target) (plain_id word.now) batch.UnmapId).reply) }
+        ensures state { (s : machine.State) → IsKept self.old s → OnOk result (IsKept self.new (machine.id_edit_step s (plain_target target) (plain_id word.now) batch.UnmapId).state) }
         ensures revision { top_revision self.new ≤ top_revision self.old + 1 }
         ensures space { self.new.next_space ≡ self.old.next_space }
         ensures tag { self.new.next_tag ≡ self.old.next_tag }
@@ -152,7 +180,7 @@ impl State {
     /// Makes an id of no workspace, and answers its tag.
     fn make_rootless(&mut self, alloc: Global, vpath: &VirtualPath) -> Result<Reply, OutOfMemory>
         requires { self.old.next_tag < 2 ^ 64 - 1 }
-        ensures reply { (s : machine.State) → IsKept self.old s → IfOk result (λ r. reply_of r ≡ (machine.rootless_step s vpath.now).reply) }
+        ensures reply { (s : machine.State) → IsKept self.old s → IfOk result (λ r. plain_reply r ≡ (machine.rootless_step s vpath.now).reply) }
         ensures state { (s : machine.State) → IsKept self.old s → OnOk result (IsKept self.new (machine.rootless_step s vpath.now).state) }
         ensures revision { top_revision self.new ≡ top_revision self.old }
         ensures space { self.new.next_space ≡ self.old.next_space }
@@ -168,7 +196,7 @@ impl State {
     /// Copies the live space whole, as the next view.
     fn take_snapshot(&mut self, alloc: Global) -> Result<Reply, OutOfMemory>
         requires { self.old.next_space < 2 ^ 64 - 1 }
-        ensures reply { (s : machine.State) → IsKept self.old s → IfOk result (λ r. reply_of r ≡ (machine.snapshot_step s).reply) }
+        ensures reply { (s : machine.State) → IsKept self.old s → IfOk result (λ r. plain_reply r ≡ (machine.snapshot_step s).reply) }
         ensures state { (s : machine.State) → IsKept self.old s → OnOk result (IsKept self.new (machine.snapshot_step s).state) }
         ensures revision { top_revision self.new ≤ top_revision self.old }
         ensures space { self.new.next_space ≤ self.old.next_space + 1 }
@@ -182,7 +210,7 @@ impl State {
 
     /// The id that a word names, if any.
     pub(crate) fn id_of(&self, alloc: Global, word: &IdWord) -> Result<Option<FileId>, OutOfMemory>
-        ensures { IfOk result (λ id. id ≡ machine.id_for self.now.tagged.items (id_said word.now)) }
+        ensures { IfOk result (λ id. id ≡ machine.id_for self.now.tagged.items (plain_id word.now)) }
     {
         match word {
             IdWord::Path(path) => id_by_parent(alloc, path.as_str()),
@@ -203,19 +231,19 @@ impl State {
         self.tagged.get((tag - 1) as usize)
     }
 
-    /// The space of a target: the live one for 0, and else a view.
-    pub(crate) fn space(&self, target: u64) -> Option<&Space>
-        ensures { option_copied result ≡ space_kept self.now target }
+    /// The space of a target.
+    pub(crate) fn space(&self, target: Target) -> Option<&Space>
+        ensures { option_copied result ≡ space_kept self.now (plain_target target) }
     {
-        if target == 0 {
-            return Some(&self.live);
+        match target {
+            Target::Live => Some(&self.live),
+            Target::View(view) => self.view(view),
         }
-        self.view(target)
     }
 
-    /// Whether there is a space of that number.
-    pub(crate) fn has_space(&self, target: u64) -> bool
-        ensures { result ≡ is_some (space_kept self.now target) }
+    /// Whether the target is there.
+    pub(crate) fn has_space(&self, target: Target) -> bool
+        ensures { result ≡ is_some (space_kept self.now (plain_target target)) }
     {
         self.space(target).is_some()
     }

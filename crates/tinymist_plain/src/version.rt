@@ -10,7 +10,7 @@ ghost use Rattle.ty_model.specs.Disk.{Told, IsFixed};
 ghost use Rattle.ty_model.specs.Standing.{same_at_path, same_entries_at};
 ghost use Rattle.ty_path.specs.Shared.{path_text};
 ghost use Rattle.tinymist_vfs.specs.Items.{clean_item, clean_text, clean_file};
-ghost use Rattle.tinymist_session.specs.ChangeSets.{set_said};
+ghost use Rattle.session_grammar.specs.Plain.{plain_changes};
 ghost use Rattle.tinymist_plain.specs.Lists.{pairs, id_pairs, put_all, without_all};
 ghost use Rattle.tinymist_plain.specs.Kept.{layers_of, version_of, lists_of, listed, said_at, said_in, looked, same_lists, stamped, path_entries, place_entries, id_entries};
 ghost use Rattle.tinymist_plain.specs.Stands.{place_said};
@@ -163,7 +163,7 @@ impl Version {
         changes: &FileChangeSet,
         stamp: Stamp,
     ) -> Result<(), OutOfMemory>
-        ensures layers { (l : model.Layers) → layers_of self.old ≡ lists_of l → OnOk result (layers_of self.new ≡ lists_of (batch.applied stamp l (batch.ChangeSet (set_said changes.now).removes (set_said changes.now).inserts))) }
+        ensures layers { (l : model.Layers) → layers_of self.old ≡ lists_of l → OnOk result (layers_of self.new ≡ lists_of (batch.applied stamp l (batch.ChangeSet (plain_changes changes.now).removes (plain_changes changes.now).inserts))) }
         ensures revision { self.new.revision ≡ self.old.revision }
         ensures reset { self.new.reset ≡ self.old.reset }
     {

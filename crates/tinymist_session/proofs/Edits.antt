@@ -14,10 +14,10 @@ use Rattle.ty_model.specs.Version.{Version}
 use Rattle.ty_model.proofs.Standing.{held_stands}
 use Rattle.tinymist_vfs.specs.Commits.{committed}
 use Rattle.tinymist_vfs.specs.declared.ids.resolver.MockRootResolver.{MockRootResolver}
-use Rattle.tinymist_session.specs.Command.{IdWord}
-use Rattle.tinymist_session.specs.declared.tagged.TaggedIds.{TaggedIds}
+use Rattle.session_grammar.specs.Command.{Target, Live, View, IdWord}
+use Rattle.tinymist_session.specs.declared.machine.tags.TaggedIds.{TaggedIds}
 use Rattle.tinymist_session.specs.Machine.{State, space_at, with_space, edit_in, edit_step, id_edit_step, id_for, on_named, edited}
-use Rattle.tinymist_session.specs.Reply.{AtRevision, BadView}
+use Rattle.session_grammar.specs.Reply.{AtRevision, BadView}
 use Rattle.tinymist_session.specs.Shown.{IsShown, Shows, shown, space_shown, known, highest, top_revision}
 use Rattle.tinymist_session.proofs.Showing.{found, missing, set_both}
 
@@ -54,48 +54,52 @@ module _ (live : Kept MockRootResolver) (views : List (Kept MockRootResolver)) (
   -- ---- edits
 
   module _ (item : Item) where
-    pub live_reply : AtRevision (committed live (item ∷ [])).held.revision ≡ (edit_step s 0 item).reply
+    pub live_reply : AtRevision (committed live (item ∷ [])).held.revision ≡ (edit_step s Live item).reply
     live_reply = ap AtRevision (revision_of (committed live (item ∷ [])) _ (shows_commit live s.live (item ∷ []) is.live_is))
 
-    pub live_shows : IsShown (committed live (item ∷ [])) views tags (edit_step s 0 item).state
+    pub live_shows : IsShown (committed live (item ∷ [])) views tags (edit_step s Live item).state
     live_shows = record { live_is = shows_commit live s.live (item ∷ []) is.live_is; views_are = is.views_are; next = is.next; next_tag = is.next_tag; tagged = is.tagged }
 
-    module _ (target : ℕ) (other : target ≢ 0) where
-      view_is : (o : Option Space) → slice_get s.views (target - 1) ≡ o → space_at s target ≡ o
-      view_is o e = rw (not_zero target other) e
+    module _ (k : ℕ) (some : k ≢ 0) where
+      view_is : (o : Option Space) → slice_get s.views (k - 1) ≡ o → space_at s (View k) ≡ o
+      view_is o e = rw (not_zero k some) e
 
-      module _ (view : Kept MockRootResolver) (e : slice_get views (target - 1) ≡ Some view) where
-        pub view_reply : AtRevision (committed view (item ∷ [])).held.revision ≡ (edit_step s target item).reply
+      module _ (view : Kept MockRootResolver) (e : slice_get views (k - 1) ≡ Some view) where
+        pub view_reply : AtRevision (committed view (item ∷ [])).held.revision ≡ (edit_step s (View k) item).reply
         view_reply =
-            let f = found views s.views (target - 1) view is.views_are e in
+            let f = found views s.views (k - 1) view is.views_are e in
             ap AtRevision (revision_of (committed view (item ∷ [])) _ (shows_commit view f.space (item ∷ []) f.shows))
-            ∙ ap (λ (o : Option Space). (edit_in s target item o).reply) (sym (view_is (Some f.space) f.there))
+            ∙ ap (λ (o : Option Space). (edit_in s (View k) item o).reply) (sym (view_is (Some f.space) f.there))
 
-        put_shows : (space : Space) → Shows (committed view (item ∷ [])) space → IsShown live (slice_set views (target - 1) (committed view (item ∷ []))) tags (with_space s target space)
-        put_shows space same = rw (not_zero target other) (record {
+        put_shows : (space : Space) → Shows (committed view (item ∷ [])) space → IsShown live (slice_set views (k - 1) (committed view (item ∷ []))) tags (with_space s (View k) space)
+        put_shows space same = record {
           live_is = is.live_is;
-          views_are = set_both views s.views (target - 1) (committed view (item ∷ [])) space is.views_are same;
+          views_are = set_both views s.views (k - 1) (committed view (item ∷ [])) space is.views_are same;
           next = is.next;
           next_tag = is.next_tag;
           tagged = is.tagged;
-        })
+        }
 
-        pub view_shows : IsShown live (slice_set views (target - 1) (committed view (item ∷ []))) tags (edit_step s target item).state
+        pub view_shows : IsShown live (slice_set views (k - 1) (committed view (item ∷ []))) tags (edit_step s (View k) item).state
         view_shows =
-            let f = found views s.views (target - 1) view is.views_are e in
-            subst (λ (o : Option Space). IsShown live (slice_set views (target - 1) (committed view (item ∷ []))) tags (edit_in s target item o).state) (sym (view_is (Some f.space) f.there))
+            let f = found views s.views (k - 1) view is.views_are e in
+            subst (λ (o : Option Space). IsShown live (slice_set views (k - 1) (committed view (item ∷ []))) tags (edit_in s (View k) item o).state) (sym (view_is (Some f.space) f.there))
             (put_shows (after_commit f.space (item ∷ [])) (shows_commit view f.space (item ∷ []) f.shows))
 
-      pub no_view : length views ≤ target - 1 → edit_step s target item ≡ record { state = s; reply = BadView }
-      no_view past = ap (edit_in s target item) (view_is None (missing views s.views (target - 1) is.views_are (slice_get_past views (target - 1) past)))
+      pub no_view : length views ≤ k - 1 → edit_step s (View k) item ≡ record { state = s; reply = BadView }
+      no_view past = ap (edit_in s (View k) item) (view_is None (missing views s.views (k - 1) is.views_are (slice_get_past views (k - 1) past)))
+
+    -- no view has the number 0
+    pub no_view_0 : (k : ℕ) → k ≡ 0 → edit_step s (View k) item ≡ record { state = s; reply = BadView }
+    no_view_0 k e = ap (λ (n : ℕ). edit_step s (View n) item) e
 
 -- ---- an edit by id, where the word names one
 
-edits_by : (s : State) (target : ℕ) (item : Id → Item) (id : Id) (o : Option Space) → on_named s o (Some id) (λ space found. edited s target (item found) space) ≡ edit_in s target (item id) o
+edits_by : (s : State) (target : Target) (item : Id → Item) (id : Id) (o : Option Space) → on_named s o (Some id) (λ space found. edited s target (item found) space) ≡ edit_in s target (item id) o
 edits_by s target item id None = refl
 edits_by s target item id (Some space) = refl
 
-pub named_edit : (s : State) (target : ℕ) (word : IdWord) (item : Id → Item) (id : Id) → id_for s.tagged word ≡ Some id → id_edit_step s target word item ≡ edit_step s target (item id)
+pub named_edit : (s : State) (target : Target) (word : IdWord) (item : Id → Item) (id : Id) → id_for s.tagged word ≡ Some id → id_edit_step s target word item ≡ edit_step s target (item id)
 named_edit s target word item id e =
     ap (λ (x : Option Id). on_named s (space_at s target) x (λ space found. edited s target (item found) space)) e
     ∙ edits_by s target item id (space_at s target)

@@ -5,9 +5,7 @@ use Rattle.ty_model.specs.LookUp.{Decision, Says, Asks}
 use Rattle.ty_model.proofs.DiskLaws.{fixed_stays}
 use Rattle.ty_syntax.specs.declared.error.FileFault.{FileFault}
 use Rattle.ty_syntax.specs.declared.error.FileFault.TheVariants.{File, OutOfMemory}
-use Rattle.ty_model.specs.Values.{Id}
-use Rattle.ty_syntax.specs.Source.{Source}
-use Rattle.tinymist_vfs.specs.Reading.{ReadsAsTold, AsksAsTold, SourcesAsTold, AsksSourceAsTold}
+use Rattle.tinymist_vfs.specs.Reading.{ReadsAsTold, AsksAsTold}
 
 asks_fixed : (path : List ℕ) (told : Told) (r : Result (List ℕ) FileFault) (after : Option Told) → IsFixed told → AsksAsTold path (Some told) r after → after ≡ Some told
 asks_fixed path told (Ok bytes) after fixed h = h.1 ∙ ap Some (fixed_stays told path fixed)
@@ -17,12 +15,3 @@ asks_fixed path told (Err OutOfMemory) after fixed h = elim h [ inl same ↦ sam
 pub reads_fixed : (d : Decision) (told : Told) (r : Result (List ℕ) FileFault) (after : Option Told) → IsFixed told → ReadsAsTold d (Some told) r after → after ≡ Some told
 reads_fixed (Says answer) told r after fixed h = h.1
 reads_fixed (Asks path) told r after fixed h = asks_fixed path told r after fixed h
-
-asks_source_fixed : (path : List ℕ) (id : Id) (told : Told) (r : Result Source FileFault) (after : Option Told) → IsFixed told → AsksSourceAsTold path id (Some told) r after → after ≡ Some told
-asks_source_fixed path id told (Ok source) after fixed h = h.1 ∙ ap Some (fixed_stays told path fixed)
-asks_source_fixed path id told (Err (File error)) after fixed h = h.1 ∙ ap Some (fixed_stays told path fixed)
-asks_source_fixed path id told (Err OutOfMemory) after fixed h = elim h [ inl same ↦ same | inr asked ↦ asked ∙ ap Some (fixed_stays told path fixed) ]
-
-pub sources_fixed : (d : Decision) (id : Id) (told : Told) (r : Result Source FileFault) (after : Option Told) → IsFixed told → SourcesAsTold d id (Some told) r after → after ≡ Some told
-sources_fixed (Says answer) id told r after fixed h = h.1
-sources_fixed (Asks path) id told r after fixed h = asks_source_fixed path id told r after fixed h

@@ -4,12 +4,13 @@ use Rattle.std.specs.Io.KnownBytes.{prepend_known, append_known}
 use Rattle.std.proofs.Math.Nat.{mul-le-mul_right}
 use Rattle.std.proofs.lemmas.List.Elements.{All-nil, All-push}
 use Rattle.ty_model.specs.Disk.{Told}
-use Rattle.tinymist_session.specs.Command.{Command}
-use Rattle.tinymist_session.specs.Lf.{IsLine}
+use Rattle.session_grammar.specs.Command.{Command}
+use Rattle.session_lines.specs.Lf.{IsLine}
 use Rattle.tinymist_session.specs.Machine.{State, step, opening}
-use Rattle.tinymist_session.specs.Reply.{reply_line}
+use Rattle.session_grammar.specs.Reply.{reply_line}
 use Rattle.tinymist_session.specs.Session.{Limits, ended, before, good_line, good_commands, replies_from}
-use Rattle.tinymist_session.specs.Run.{Received, replies_received, TakenWithin, most_bytes}
+use Rattle.session_lines.specs.LineSource.{TakenWithin}
+use Rattle.tinymist_session.specs.Run.{Received, replies_received, most_bytes}
 use Rattle.tinymist_session.specs.Turns.{GoodLine, Broken}
 use Rattle.tinymist_session.proofs.UnderWay.{Front, state_after}
 

@@ -6,9 +6,9 @@ use Rattle.std.proofs.lemmas.Bool.Decides.{leb_tells}
 use Rattle.std.specs.Prelude.{nat_le, nat_lt}
 use Rattle.std.specs.List.{list_any}
 use Rattle.ty_model.specs.Paths.{onto_first}
-use Rattle.tinymist_session.specs.Command.{Command}
-use Rattle.tinymist_session.specs.Grammar.{command_of}
-use Rattle.tinymist_session.specs.Lf.{IsLine}
+use Rattle.session_grammar.specs.Command.{Command}
+use Rattle.session_grammar.specs.Grammar.{command_of}
+use Rattle.session_lines.specs.Lf.{IsLine}
 use Rattle.tinymist_session.specs.Session.{Limits, lines_of, Whole, Bad, Over, good_line, good_commands, before, end_with, end_of, commands_of}
 use Rattle.tinymist_session.specs.Turns.{commands_after, end_after, ends}
 

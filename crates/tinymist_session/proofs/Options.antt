@@ -3,7 +3,7 @@ use Rattle.std.proofs.Common.{◌≡◌, ◌⊎◌, ℕ, ◌+◌, ◌*◌, ◌<�
 use Rattle.std.specs.Prelude.{codes}
 use Rattle.std.specs.Option.{option_map}
 use Rattle.std.specs.Str.{bytes_eq}
-use Rattle.tinymist_session.specs.Words.{Options, once, with_value, limit_of, options_of}
+use Rattle.tinymist_session.specs.Arguments.{Options, once, with_value, limit_of, options_of}
 
 abbrev count : Option ℕ → ℕ
 count None = 0

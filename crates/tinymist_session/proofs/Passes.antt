@@ -4,27 +4,22 @@ use Rattle.std.specs.Prelude.{IsSome}
 use Rattle.std.specs.Io.KnownBytes.{prepend_known, append_known, IsAtEnd}
 use Rattle.std.proofs.lemmas.List.{take-append-drop}
 use Rattle.ty_model.specs.Disk.{Told}
-use Rattle.tinymist_session.specs.Command.{Command}
-use Rattle.tinymist_session.specs.Grammar.{command_of}
+use Rattle.session_grammar.specs.Command.{Command}
+use Rattle.session_grammar.specs.Grammar.{command_of}
 use Rattle.tinymist_session.specs.Machine.{State, step, opening}
-use Rattle.tinymist_session.specs.Reply.{reply_line}
-use Rattle.tinymist_session.specs.declared.command.Command.{Command as Said}
-use Rattle.tinymist_session.specs.Said.{command_of as command_said}
-use Rattle.tinymist_session.specs.Lf.{IsLine}
+use Rattle.session_grammar.specs.Reply.{reply_line}
+use Rattle.session_grammar.specs.declared.command.Command.{Command as Said}
+use Rattle.session_grammar.specs.Plain.{plain_command}
+use Rattle.session_lines.specs.Lf.{IsLine}
 use Rattle.tinymist_session.specs.Session as session
 use Rattle.tinymist_session.specs.Session.{End, Whole, Bad, Over, lines_of, replies_from, replies_to}
 use Rattle.tinymist_session.proofs.Lines.{lines-lf, lines-last, lines-long, some_line, end_over, commands_start, end_good, end_bad, end_long, commands_good, commands_bad, commands_long}
 use Rattle.tinymist_session.specs.declared.session.SessionFault.{SessionFault}
 use Rattle.tinymist_session.specs.declared.session.SessionFault.TheVariants.{ReadFault, WriteFault, BadLine, Full, OutOfMemory}
 use Rattle.tinymist_session.specs.Run.{EndFits, TakesPrefix, Written, UnlessCutOff}
-use Rattle.tinymist_session.specs.ByteSink.{TakesFront}
+use Rattle.session_lines.specs.ByteSink.{TakesFront}
 use Rattle.tinymist_session.specs.Turns.{TurnReads, commands_after, end_after, ends, replies}
-use Rattle.tinymist_session.proofs.Known.{append-append}
-
--- what is left after the bytes bs, where the bytes are told
-pub known_left : (old new : Option (List ℕ)) (bs rest : List ℕ) → old ≡ prepend_known bs new → old ≡ Some rest → (next : List ℕ) × (new ≡ Some next) × (rest ≡ bs ++ next)
-known_left old None bs rest e is = absurd (cc)
-known_left old (Some next) bs rest e is = (next, refl, cc)
+use Rattle.session_lines.proofs.Known.{append-append, known_left}
 
 pub some_command : (o : Option Command) → IsSome o → (c : Command) × (o ≡ Some c)
 some_command None h = absurd (cc)
@@ -190,8 +185,8 @@ byte_over limits rest old new (b ∷ bs) is e some =
     ap (end_after limits limits.max_lines) (ap lines_of known.2 ∙ line.2) ∙ end_over limits line.0 line.1
 
 -- the command that was read is that of the line
-pub some_said : (said : Said) (read line : List ℕ) (command : Command) → Some (command_said said) ≡ command_of read → read ≡ line → command_of line ≡ Some command → command_said said ≡ command
-some_said said read line command e same is = let both : Some (command_said said) ≡ Some command = e ∙ ap command_of same ∙ is in cc
+pub some_said : (said : Said) (read line : List ℕ) (command : Command) → Some (plain_command said) ≡ command_of read → read ≡ line → command_of line ≡ Some command → plain_command said ≡ command
+some_said said read line command e same is = let both : Some (plain_command said) ≡ Some command = e ∙ ap command_of same ∙ is in cc
 
 -- at the start
 pub replies_start : (limits : session.Limits) (told : Told) (input : List ℕ) → replies_to limits told input ≡ replies limits told opening 0 input

@@ -9,9 +9,9 @@ use Rattle.ty_model.specs.Held.{Kept}
 use Rattle.ty_model.specs.Disk.{Told}
 use Rattle.ty_model.specs.Space.{Space}
 use Rattle.tinymist_vfs.specs.declared.ids.resolver.MockRootResolver.{MockRootResolver}
-use Rattle.tinymist_session.specs.declared.tagged.TaggedIds.{TaggedIds}
-use Rattle.tinymist_session.specs.Command.{IdWord}
-use Rattle.tinymist_session.specs.Reply.{Reply}
+use Rattle.tinymist_session.specs.declared.machine.tags.TaggedIds.{TaggedIds}
+use Rattle.session_grammar.specs.Command.{Target, IdWord}
+use Rattle.session_grammar.specs.Reply.{Reply}
 use Rattle.tinymist_session.specs.Machine.{State, Stepped, view_at, id_for, with_asked, asking, on_named, read_in, read_step, source_in, source_step, listed}
 use Rattle.tinymist_session.specs.Shown.{IsShown, Shows}
 use Rattle.tinymist_session.proofs.Showing.{Found, set_space}
@@ -61,5 +61,5 @@ module _ (live : Kept MockRootResolver) (views : List (Kept MockRootResolver)) (
 
   -- ---- what is listed of a target
 
-  pub some_listed : (reply : Space → Reply) (r : Reply) (t : ℕ) (k : Kept MockRootResolver) (o : Option Space) → Found o k → ((space : Space) → Shows k space → r ≡ reply space) → r ≡ listed reply o
+  pub some_listed : (reply : Space → Reply) (r : Reply) (t : Target) (k : Kept MockRootResolver) (o : Option Space) → Found o k → ((space : Space) → Shows k space → r ≡ reply space) → r ≡ listed reply o
   some_listed reply r t k o it h = h it.space it.shows ∙ ap (listed reply) (sym it.there)

@@ -2,11 +2,11 @@
 use Rattle.std.proofs.Common.{◌≡◌, ℕ, ◌+◌, List, [], ◌∷◌, ◌++◌, refl, sym, ap, ◌∙◌, append_assoc, Bool, Option, Some, Result, Err}
 use Rattle.std.specs.Io.KnownBytes.{append_known}
 use Rattle.ty_model.specs.Held.{Kept}
-use Rattle.tinymist_session.specs.declared.tagged.TaggedIds.{TaggedIds}
+use Rattle.tinymist_session.specs.declared.machine.tags.TaggedIds.{TaggedIds}
 use Rattle.ty_model.specs.Disk.{Told}
 use Rattle.tinymist_vfs.specs.declared.ids.resolver.MockRootResolver.{MockRootResolver}
 use Rattle.tinymist_session.specs.Machine.{State, step, opening}
-use Rattle.tinymist_session.specs.Reply.{reply_line}
+use Rattle.session_grammar.specs.Reply.{reply_line}
 use Rattle.tinymist_session.specs.Session as session
 use Rattle.tinymist_session.specs.Session.{good_commands, replies_from}
 use Rattle.tinymist_session.specs.declared.session.SessionFault.{SessionFault}
@@ -14,7 +14,7 @@ use Rattle.tinymist_session.specs.declared.session.SessionFault.TheVariants.{Rea
 use Rattle.tinymist_session.specs.Shown.{IsShown}
 use Rattle.tinymist_session.specs.Turns.{replies, Passed}
 use Rattle.tinymist_session.proofs.UnderWay.{Pending, state_after}
-use Rattle.tinymist_session.proofs.Known.{append-append}
+use Rattle.session_lines.proofs.Known.{append-append}
 use Rattle.tinymist_session.proofs.Passes.{append-nil_known}
 use Rattle.tinymist_session.proofs.Fronts.{front_start, front_push, commands_push, replies_push, state_push}
 

@@ -8,10 +8,10 @@ use Rattle.ty_model.specs.Values.{Id}
 use Rattle.ty_model.specs.Version.{Version}
 use Rattle.ty_syntax.specs.declared.tags.TagFault.{TagFault}
 use Rattle.tinymist_vfs.specs.declared.ids.resolver.MockRootResolver.{MockRootResolver}
-use Rattle.tinymist_session.specs.Command.{IdWord}
-use Rattle.tinymist_session.specs.declared.tagged.TaggedIds.{TaggedIds}
+use Rattle.session_grammar.specs.Command.{Target, Live, View, IdWord}
+use Rattle.tinymist_session.specs.declared.machine.tags.TaggedIds.{TaggedIds}
 use Rattle.tinymist_session.specs.Machine.{State, Stepped, view_at, space_at, id_for, ids_for, on_named, replied, snapshot_step}
-use Rattle.tinymist_session.specs.Reply.{Reply, BadView, BadId}
+use Rattle.session_grammar.specs.Reply.{Reply, BadView, BadId}
 use Rattle.tinymist_session.specs.Shown.{IsShown, Shows, AllShow, known, kept_at, target_kept}
 
 abbrev Values : Type 0
@@ -85,21 +85,15 @@ module _ (live : Kept MockRootResolver) (views : Values) (tags : TaggedIds) (s :
   pub view_missing : (k : ℕ) → kept_at views k ≡ None → view_at s.views k ≡ None
   view_missing k e = none_by_zero (k == 0) (k - 1) e
 
-  target_by : (b : Bool) (t : ℕ) (v : Kept MockRootResolver) → cond b (Some live) (kept_at views t) ≡ Some v → Found (cond b (Some s.live) (view_at s.views t)) v
-  target_by true t v e =
+  pub target_found : (t : Target) (v : Kept MockRootResolver) → target_kept live views t ≡ Some v → Found (space_at s t) v
+  target_found Live v e =
       let same : live ≡ v = cc in
       record { space = s.live; there = refl; shows = subst (λ (x : Kept MockRootResolver). Shows x s.live) same is.live_is }
-  target_by false t v e = view_found t v e
+  target_found (View k) v e = view_found k v e
 
-  none_by : (b : Bool) (t : ℕ) → cond b (Some live) (kept_at views t) ≡ None → cond b (Some s.live) (view_at s.views t) ≡ None
-  none_by true t e = absurd (cc)
-  none_by false t e = view_missing t e
-
-  pub target_found : (t : ℕ) (v : Kept MockRootResolver) → target_kept live views t ≡ Some v → Found (space_at s t) v
-  target_found t v e = target_by (t == 0) t v e
-
-  pub target_missing : (t : ℕ) → target_kept live views t ≡ None → space_at s t ≡ None
-  target_missing t e = none_by (t == 0) t e
+  pub target_missing : (t : Target) → target_kept live views t ≡ None → space_at s t ≡ None
+  target_missing Live e = absurd (cc)
+  target_missing (View k) e = view_missing k e
 
   -- the id of a word, by what has a tag
   pub id_is : (word : IdWord) (id found : Option Id) → id ≡ id_for tags.ids.items word → id ≡ found → id_for s.tagged word ≡ found

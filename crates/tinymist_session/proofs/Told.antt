@@ -4,10 +4,10 @@ use Rattle.std.specs.Io.KnownBytes.{append_known}
 use Rattle.ty_model.specs.Disk.{Told}
 use Rattle.ty_model.specs.Faults.{Rose}
 use Rattle.std.specs.Prelude.{IsTrue}
-use Rattle.tinymist_session.specs.declared.sink.FlushStep.{FlushStep}
-use Rattle.tinymist_session.specs.declared.sink.FlushStep.TheVariants.{Done, Failed}
-use Rattle.tinymist_session.specs.LineSource.{HasCause}
-use Rattle.tinymist_session.specs.ByteSink.{TakesFront, flushed_by, IsFailedFlush}
+use Rattle.session_lines.specs.declared.sink.FlushStep.{FlushStep}
+use Rattle.session_lines.specs.declared.sink.FlushStep.TheVariants.{Done, Failed}
+use Rattle.session_lines.specs.LineSource.{SourceSeen, HasCause}
+use Rattle.session_lines.specs.ByteSink.{SinkSeen, HasRefused, TakesFront, flushed_by, IsFailedFlush}
 use Rattle.tinymist_session.specs.Session.{Limits, replies_to}
 use Rattle.tinymist_session.specs.declared.session.SessionFault.{SessionFault}
 use Rattle.tinymist_session.specs.declared.session.SessionFault.TheVariants.{ReadFault, WriteFault, BadLine, OutOfMemory}
@@ -26,18 +26,18 @@ flushed_or_rose Done old new before now e h = inl e
 flushed_or_rose Failed old new before now e h = inr (h.cause tt)
 
 -- a line that was offered until the sink had taken it or had failed
-pub is_told : (line piece : List ℕ) (old mid new : Option (List ℕ)) (flushed' : Bool) (faults mid_faults faults' dry mid_dry dry' : ℕ) (all : Bool) → piece ≡ line
-    → (all ≡ true → mid ≡ append_known old piece) → TakesFront old mid piece → (all ≡ false → Rose faults mid_faults ⊎ Rose dry mid_dry)
-    → new ≡ mid → faults ≤ mid_faults → mid_faults ≤ faults' → mid_dry ≤ dry' → IsTrue flushed' ⊎ Rose mid_faults faults' → IsTold line old new flushed' faults faults' dry dry'
-is_told line piece old mid new flushed' faults mid_faults faults' dry mid_dry dry' all same whole some cause e o f d gone = record {
-  front = rw e (front old mid piece [] line some (sym same ∙ sym (append-nil piece)));
+pub is_told : (line piece : List ℕ) (old mid new : SinkSeen) (all : Bool) → piece ≡ line
+    → (all ≡ true → mid.taken ≡ append_known old.taken piece) → TakesFront old.taken mid.taken piece → (all ≡ false → HasRefused old mid)
+    → new.taken ≡ mid.taken → old.faults ≤ mid.faults → mid.faults ≤ new.faults → mid.dry ≤ new.dry → IsTrue new.flushed ⊎ Rose mid.faults new.faults → IsTold line old new
+is_told line piece old mid new all same whole some cause e o f d gone = record {
+  front = rw e (front old.taken mid.taken piece [] line some (sym same ∙ sym (append-nil piece)));
   whole = rw e (told all refl);
-  gone_on = inr (elim gone [ inl h ↦ inl h | inr h ↦ inr (sooner faults mid_faults faults' o h) ]);
+  gone_on = inr (elim gone [ inl h ↦ inl h | inr h ↦ inr (sooner old.faults mid.faults new.faults o h) ]);
 }
   where
-    told : (b : Bool) → all ≡ b → (mid ≡ append_known old line) ⊎ (Rose faults faults' ⊎ Rose dry dry')
-    told true is = inl (whole is ∙ ap (append_known old) same)
-    told false is = elim (cause is) [ inl h ↦ inr (inl (later faults mid_faults faults' h f)) | inr h ↦ inr (inr (later dry mid_dry dry' h d)) ]
+    told : (b : Bool) → all ≡ b → (mid.taken ≡ append_known old.taken line) ⊎ HasRefused old new
+    told true is = inl (whole is ∙ ap (append_known old.taken) same)
+    told false is = elim (cause is) [ inl h ↦ inr (inl (later old.faults mid.faults new.faults h f)) | inr h ↦ inr (inr (later old.dry mid.dry new.dry h d)) ]
 
 pub same_limits : (a b : Limits) (read : Option Limits) → Some a ≡ read → read ≡ Some b → a ≡ b
 same_limits a b read e f = cc
@@ -46,14 +46,14 @@ same_limits a b read e f = cc
 pub read_kept : (r r' : Result (Unit {0}) SessionFault) → (r' ≡ r) ⊎ (r' ≡ Err WriteFault) → r' ≡ Err ReadFault → r ≡ Err ReadFault
 read_kept r r' same e = elim same [ inl is ↦ cc | inr is ↦ absurd (cc) ]
 
-module _ (limits : Limits) (left left' : Option (List ℕ)) (disk disk' : Option Told) (taken taken' : Option (List ℕ)) (flushed' : Bool) (reads reads' faults faults' dry dry' : ℕ) where
+module _ (limits : Limits) (source source' : SourceSeen) (disk disk' : Option Told) (sink sink' : SinkSeen) where
   abbrev Of : Result (Unit {0}) SessionFault → Type 0
-  Of r = Answered limits left left' disk disk' taken taken' flushed' reads reads' faults faults' dry dry' r
+  Of r = Answered limits source source' disk disk' sink sink' r
 
   no_memory : (n : ℕ) → Of (Err (BadLine n)) → Of (Err OutOfMemory)
   no_memory n a = record {
     ends = λ input is. tt;
-    written = λ input told is d fixed. some_written (replies_to limits told input) taken taken' (Err (BadLine n)) (a.written input told is d fixed);
+    written = λ input told is d fixed. some_written (replies_to limits told input) sink.taken sink'.taken (Err (BadLine n)) (a.written input told is d fixed);
     received = λ input is e. absurd (cc);
     answered = λ input told is d fixed e. absurd (cc);
     bounded = a.bounded;

@@ -4,9 +4,9 @@ use Rattle.std.specs.Io.KnownBytes.{append_known}
 use Rattle.ty_model.specs.Disk.{Told}
 use Rattle.ty_model.specs.Held.{Kept}
 use Rattle.tinymist_vfs.specs.declared.ids.resolver.MockRootResolver.{MockRootResolver}
-use Rattle.tinymist_session.specs.declared.tagged.TaggedIds.{TaggedIds}
-use Rattle.tinymist_session.specs.Command.{Command}
-use Rattle.tinymist_session.specs.Lf.{IsLine}
+use Rattle.tinymist_session.specs.declared.machine.tags.TaggedIds.{TaggedIds}
+use Rattle.session_grammar.specs.Command.{Command}
+use Rattle.session_lines.specs.Lf.{IsLine}
 use Rattle.tinymist_session.specs.Machine.{State, opening, step}
 use Rattle.tinymist_session.specs.Session as session
 use Rattle.tinymist_session.specs.Session.{ended, good_commands, replies_from}

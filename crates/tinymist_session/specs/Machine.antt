@@ -13,9 +13,9 @@ use Rattle.ty_model.specs.LookUp.{look}
 use Rattle.ty_model.specs.Standing.{are_clean}
 use Rattle.ty_model.specs.Space.{Space, after_commit, snapshot_of}
 use Rattle.tinymist_vfs.specs.Reading.{source_of}
-use Rattle.tinymist_session.specs.Command.{Command, Edit, MapId, UnmapId, Rootless, Snapshot, Read, Source, Line, Paths, Ids, Path, Clean, IdWord, PathWord, TagWord}
-use Rattle.tinymist_session.specs.Grammar.{answer_at}
-use Rattle.tinymist_session.specs.Reply.{Reply, AtRevision, ViewNumber, PathList, IdList, IdTag, IsClean, BadView, BadId, BadRevision, reply_to, text_reply, line_reply, place_reply}
+use Rattle.session_grammar.specs.Command.{Target, Live, View, Command, Edit, MapId, UnmapId, Rootless, Snapshot, Read, Source, Line, Paths, Ids, Path, Clean, IdWord, PathWord, TagWord}
+use Rattle.session_grammar.specs.Grammar.{answer_at}
+use Rattle.session_grammar.specs.Reply.{Reply, AtRevision, ViewNumber, PathList, IdList, IdTag, IsClean, BadView, BadId, BadRevision, reply_to, text_reply, line_reply, place_reply}
 
 -- the live space, the views with view 1 first, and what is drawn next
 pub record State : Type 0 where
@@ -46,24 +46,26 @@ opening = record {
 abbrev pub view_at : List Space → ℕ → Option Space
 view_at views k = if k == 0 then None else slice_get views (k - 1)
 
--- the space of a target: the live one for 0, and else a view
-abbrev pub space_at : State → ℕ → Option Space
-space_at s target = if target == 0 then Some s.live else view_at s.views target
+-- the space of a target, if there is one
+abbrev pub space_at : State → Target → Option Space
+space_at s Live = Some s.live
+space_at s (View k) = view_at s.views k
 
 -- the state with this space at a target
-abbrev pub with_space : State → ℕ → Space → State
-with_space s target space = if target == 0 then record s { live = space } else record s { views = slice_set s.views (target - 1) space }
+abbrev pub with_space : State → Target → Space → State
+with_space s Live space = record s { live = space }
+with_space s (View k) space = record s { views = slice_set s.views (k - 1) space }
 
 -- the id of a tag, where 0 is none
 abbrev pub tagged_at : List Id → ℕ → Option Id
 tagged_at tagged tag = if tag == 0 then None else slice_get tagged (tag - 1)
 
--- the id that a word names: the file of a path in the workspace of its parent, or the id of a tag
+-- the id that a field names: the file of a path in the workspace of its parent, or the id of a tag
 abbrev pub id_for : List Id → IdWord → Option Id
 id_for tagged (PathWord path) = id_by_parent path
 id_for tagged (TagWord tag) = tagged_at tagged tag
 
--- the ids that words name, where each names one
+-- the ids that fields name, where each names one
 abbrev pub ids_for : List Id → List IdWord → Option (List Id)
 ids_for tagged [] = Some []
 ids_for tagged (word ∷ words) = option_and_then (λ id. option_map (λ ids. id ∷ ids) (ids_for tagged words)) (id_for tagged word)
@@ -81,22 +83,22 @@ on_named s (Some space) (Some named) f = f space named
 -- ---- edits
 
 -- an edit commits a batch of one item on its target, and leaves all other spaces as they are
-abbrev pub edited : State → ℕ → Item → Space → Stepped
+abbrev pub edited : State → Target → Item → Space → Stepped
 edited s target item space =
     let new = after_commit space (item ∷ []) in
     record { state = with_space s target new; reply = AtRevision new.now.revision }
 
 -- an edit of a space that may be missing
-abbrev pub edit_in : State → ℕ → Item → Option Space → Stepped
+abbrev pub edit_in : State → Target → Item → Option Space → Stepped
 edit_in s target item None = replied s BadView
 edit_in s target item (Some space) = edited s target item space
 
 -- an edit of a target
-abbrev pub edit_step : State → ℕ → Item → Stepped
+abbrev pub edit_step : State → Target → Item → Stepped
 edit_step s target item = edit_in s target item (space_at s target)
 
--- an edit of an id that a word names
-abbrev pub id_edit_step : State → ℕ → IdWord → (Id → Item) → Stepped
+-- an edit of an id that a field names
+abbrev pub id_edit_step : State → Target → IdWord → (Id → Item) → Stepped
 id_edit_step s target word item = on_named s (space_at s target) (id_for s.tagged word) (λ space id. edited s target (item id) space)
 
 -- an id of no workspace
@@ -131,7 +133,7 @@ asking s k view id = record s { views = slice_set s.views (k - 1) (with_asked id
 abbrev pub read_in : State → Told → ℕ → Space → Id → Stepped
 read_in s disk k view id = record { state = asking s k view id; reply = reply_to (look view.now disk id) }
 
--- a read of what a word names in view k
+-- a read of what a field names in view k
 abbrev pub read_step : State → Told → ℕ → IdWord → Stepped
 read_step s disk k word = on_named s (view_at s.views k) (id_for s.tagged word) (read_in s disk k)
 
@@ -146,7 +148,7 @@ source_in s disk reply k view id = record {
   reply = reply (source_at view.now disk id);
 }
 
--- a sentence that reads the source of an id, and makes a reply of it
+-- a command that reads the source of an id, and makes a reply of it
 abbrev pub source_step : State → Told → ℕ → IdWord → (Answer → Reply) → Stepped
 source_step s disk k word reply = on_named s (view_at s.views k) (id_for s.tagged word) (source_in s disk reply k)
 
@@ -173,12 +175,12 @@ has_revision space r = nat_le 2 r && nat_le r space.now.revision
 abbrev pub clean_reply : Space → ℕ → List Id → Reply
 clean_reply space r ids = if has_revision space r then IsClean (are_clean (space.now ∷ space.past) r ids) else BadRevision
 
--- where the id that a word names stands in a target
-abbrev pub path_step : State → ℕ → IdWord → Stepped
+-- where the id that a field names stands in a target
+abbrev pub path_step : State → Target → IdWord → Stepped
 path_step s target word = on_named s (space_at s target) (id_for s.tagged word) (λ space id. replied s (place_reply id (place_of space.now.resolver id)))
 
--- whether the ids that words name are clean in a target
-abbrev pub clean_step : State → ℕ → ℕ → List IdWord → Stepped
+-- whether the ids that fields name are clean in a target
+abbrev pub clean_step : State → Target → ℕ → List IdWord → Stepped
 clean_step s target r words = on_named s (space_at s target) (ids_for s.tagged words) (λ space ids. replied s (clean_reply space r ids))
 
 -- ---- all commands
@@ -198,36 +200,20 @@ step s disk (Ids target) = replied s (listed id_list (space_at s target))
 step s disk (Path target word) = path_step s target word
 step s disk (Clean target r words) = clean_step s target r words
 
--- the space that a command may change, if any
-abbrev pub target_of : Command → Option ℕ
-target_of (Edit target item) = Some target
-target_of (MapId target word content) = Some target
-target_of (UnmapId target word) = Some target
-target_of (Rootless vpath) = None
-target_of Snapshot = None
-target_of (Read view word) = Some view
-target_of (Source view word) = Some view
-target_of (Line view word offset) = Some view
-target_of (Paths target) = None
-target_of (Ids target) = None
-target_of (Path target word) = None
-target_of (Clean target r words) = None
-
--- a step leaves each space but its target as it was, and a view that is there stays
-abbrev pub LeavesOthers : Type 0
-LeavesOthers = (disk : Told) (s : State) (command : Command) (k : ℕ) (space : Space) → target_of command ≢ Some k → space_at s k ≡ Some space → space_at (step s disk command).state k ≡ Some space
-
 -- the space that a command edits, if any; a command that reads edits none
-abbrev pub edited_space : Command → Option ℕ
+abbrev pub edited_space : Command → Option Target
 edited_space (Edit target item) = Some target
 edited_space (MapId target word content) = Some target
 edited_space (UnmapId target word) = Some target
-edited_space (Rootless vpath) = None
-edited_space Snapshot = None
-edited_space (Read view word) = None
-edited_space (Source view word) = None
-edited_space (Line view word offset) = None
-edited_space (Paths target) = None
-edited_space (Ids target) = None
-edited_space (Path target word) = None
-edited_space (Clean target r words) = None
+edited_space command = None
+
+-- the space that a command may change, if any: a read of a view notes there what was asked for
+abbrev pub changed_space : Command → Option Target
+changed_space (Read view word) = Some (View view)
+changed_space (Source view word) = Some (View view)
+changed_space (Line view word offset) = Some (View view)
+changed_space command = edited_space command
+
+-- a step leaves each space but the one that its command may change as it was, and a view that is there stays
+abbrev pub LeavesOthers : Type 0
+LeavesOthers = (disk : Told) (s : State) (command : Command) (target : Target) (space : Space) → changed_space command ≢ Some target → space_at s target ≡ Some space → space_at (step s disk command).state target ≡ Some space

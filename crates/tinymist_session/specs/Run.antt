@@ -7,7 +7,9 @@ use Rattle.ty_model.specs.Disk.{Told, IsFixed}
 use Rattle.tinymist_session.specs.Session as session
 use Rattle.tinymist_session.specs.Session.{End, Whole, Bad, Over, end_of, replies_to, ended, good_commands, replies_from}
 use Rattle.tinymist_session.specs.Machine.{opening}
-use Rattle.tinymist_session.specs.Lf.{IsLine}
+use Rattle.session_lines.specs.Lf.{IsLine}
+use Rattle.session_lines.specs.LineSource.{SourceSeen, TakenWithin}
+use Rattle.session_lines.specs.ByteSink.{SinkSeen, HasRefused}
 use Rattle.tinymist_session.specs.declared.session.SessionFault.{SessionFault}
 use Rattle.tinymist_session.specs.declared.session.SessionFault.TheVariants.{ReadFault, WriteFault, BadLine, Full, OutOfMemory}
 
@@ -20,11 +22,11 @@ EndFits end (Err ReadFault) = ⊤
 EndFits end (Err WriteFault) = ⊤
 EndFits end (Err OutOfMemory) = ⊤
 
--- some front of the replies was taken
+-- some prefix of the replies was taken
 abbrev pub TakesPrefix : Option (List ℕ) → Option (List ℕ) → List ℕ → Type 0
 TakesPrefix old new replies = (part : List ℕ) × (more : List ℕ) × (new ≡ append_known old part) × (part ++ more ≡ replies)
 
--- what the sink took with an answer: all of the replies, or a front of them
+-- what the sink took with an answer: all of the replies, or a prefix of them
 abbrev pub Written : List ℕ → Option (List ℕ) → Option (List ℕ) → Result (Unit {0}) SessionFault → Type 0
 Written replies old new (Ok done) = new ≡ append_known old replies
 Written replies old new (Err (BadLine n)) = new ≡ append_known old replies
@@ -33,7 +35,7 @@ Written replies old new (Err ReadFault) = TakesPrefix old new replies
 Written replies old new (Err WriteFault) = TakesPrefix old new replies
 Written replies old new (Err OutOfMemory) = TakesPrefix old new replies
 
--- what was received of an input before a read failed: good lines, each ended by LF, and the front of one more
+-- what was received of an input before a read failed: good lines, each ended by LF, and the start of one more
 pub record Received (limits : session.Limits) (input : List ℕ) (left : Option (List ℕ)) : Type 0 where
   pub lines : List (List ℕ)
   pub rest : List ℕ
@@ -49,12 +51,6 @@ pub record Received (limits : session.Limits) (input : List ℕ) (left : Option 
 abbrev pub replies_received : (limits : session.Limits) → Told → (input : List ℕ) (left : Option (List ℕ)) → Received limits input left → List ℕ
 replies_received limits disk input left r = replies_from disk opening (good_commands limits r.lines)
 
--- of this input no more than so many bytes were taken
-pub record TakenWithin (most : ℕ) (input : List ℕ) (left : Option (List ℕ)) : Type 0 where
-  pub rest : List ℕ
-  pub left_is : left ≡ Some rest
-  pub within : length input ≤ length rest + most
-
 -- the most bytes that a session takes: all its lines with their LF, and one piece
 abbrev pub most_bytes : session.Limits → ℕ
 most_bytes limits = limits.max_lines * (limits.max_line + 1) + 65536
@@ -69,31 +65,30 @@ UnlessCutOff (Err WriteFault) P = ⊤
 UnlessCutOff (Err OutOfMemory) P = ⊤
 
 -- a session over a source, a disk and a sink: each as it was, and as it is
-pub record Answered (limits : session.Limits) (left left' : Option (List ℕ)) (disk disk' : Option Told) (taken taken' : Option (List ℕ)) (flushed' : Bool)
-    (reads reads' faults faults' dry dry' : ℕ) (r : Result (Unit {0}) SessionFault) : Type 0 where
+pub record Answered (limits : session.Limits) (source source' : SourceSeen) (disk disk' : Option Told) (sink sink' : SinkSeen) (r : Result (Unit {0}) SessionFault) : Type 0 where
   -- the answer goes with the end of the input
-  pub ends : (input : List ℕ) → left ≡ Some input → EndFits (end_of limits input) r
+  pub ends : (input : List ℕ) → source.left ≡ Some input → EndFits (end_of limits input) r
   -- the sink took the replies of the plain machine
-  pub written : (input : List ℕ) (told : Told) → left ≡ Some input → disk ≡ Some told → IsFixed told → Written (replies_to limits told input) taken taken' r
+  pub written : (input : List ℕ) (told : Told) → source.left ≡ Some input → disk ≡ Some told → IsFixed told → Written (replies_to limits told input) sink.taken sink'.taken r
   -- at a read fault, the replies to the lines that were received
-  pub received : (input : List ℕ) → left ≡ Some input → IsErrOf r ReadFault → Received limits input left'
-  pub answered : (input : List ℕ) (told : Told) → left ≡ Some input → disk ≡ Some told → IsFixed told → IsErrOf r ReadFault
-      → (lines : Received limits input left') × (taken' ≡ append_known taken (replies_received limits told input left' lines))
+  pub received : (input : List ℕ) → source.left ≡ Some input → IsErrOf r ReadFault → Received limits input source'.left
+  pub answered : (input : List ℕ) (told : Told) → source.left ≡ Some input → disk ≡ Some told → IsFixed told → IsErrOf r ReadFault
+      → (lines : Received limits input source'.left) × (sink'.taken ≡ append_known sink.taken (replies_received limits told input source'.left lines))
   -- the source is read no further than it needs
-  pub bounded : (input : List ℕ) → left ≡ Some input → TakenWithin (most_bytes limits) input left'
+  pub bounded : (input : List ℕ) → source.left ≡ Some input → TakenWithin (most_bytes limits) input source'.left
   -- a disk with one answer for each path is left as it was
   pub disk_stays : (told : Told) → disk ≡ Some told → IsFixed told → disk' ≡ Some told
   -- only after the input was read to its end
-  pub read : OnOk r (IsAtEnd left')
+  pub read : OnOk r (IsAtEnd source'.left)
   -- what was answered has gone on before the source is asked, so also where that read fails
-  pub was_flushed_before_read : IsErrOf r ReadFault → IsTrue flushed'
+  pub was_flushed_before_read : IsErrOf r ReadFault → IsTrue sink'.flushed
   -- what was written has gone on
-  pub was_flushed : UnlessCutOff r (IsTrue flushed')
+  pub was_flushed : UnlessCutOff r (IsTrue sink'.flushed)
   -- so it has where memory ran out, or the flush failed
-  pub was_flushed_without_memory : IsErrOf r OutOfMemory → IsTrue flushed' ⊎ Rose faults faults'
+  pub was_flushed_without_memory : IsErrOf r OutOfMemory → IsTrue sink'.flushed ⊎ Rose sink.faults sink'.faults
   -- faults have their causes
-  pub read_cause : IsErrOf r ReadFault → Rose reads reads'
-  pub write_cause : IsErrOf r WriteFault → Rose faults faults' ⊎ Rose dry dry'
+  pub read_cause : IsErrOf r ReadFault → Rose source.faults source'.faults
+  pub write_cause : IsErrOf r WriteFault → HasRefused sink sink'
 
 -- the status of an answer
 abbrev pub status_of : Result (Unit {0}) SessionFault → ℕ
@@ -117,12 +112,12 @@ abbrev pub fault_line : Result (Unit {0}) SessionFault → List ℕ
 fault_line (Ok done) = []
 fault_line (Err fault) = fault_text fault ++ 10 ∷ []
 
--- the line where the words are those of no session
+-- the line where the arguments are those of no session
 abbrev pub bad_words_line : List ℕ
 bad_words_line = codes "bad words" ++ 10 ∷ []
 
 -- a sink was told this line: it took all of it and flushed it, unless it failed, and else a prefix of it
-pub record IsTold (line : List ℕ) (old new : Option (List ℕ)) (flushed' : Bool) (faults faults' dry dry' : ℕ) : Type 0 where
-  pub front : TakesPrefix old new line
-  pub whole : (new ≡ append_known old line) ⊎ (Rose faults faults' ⊎ Rose dry dry')
-  pub gone_on : (line ≡ []) ⊎ (IsTrue flushed' ⊎ Rose faults faults')
+pub record IsTold (line : List ℕ) (old new : SinkSeen) : Type 0 where
+  pub front : TakesPrefix old.taken new.taken line
+  pub whole : (new.taken ≡ append_known old.taken line) ⊎ HasRefused old new
+  pub gone_on : (line ≡ []) ⊎ (IsTrue new.flushed ⊎ Rose old.faults new.faults)

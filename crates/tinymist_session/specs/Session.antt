@@ -2,9 +2,9 @@
 use Rattle.std.specs.Prelude.{ℕ, ◌+◌, ◌==◌, nat_lt, nat_le, if◌then◌else◌, List, [], ◌∷◌, ◌++◌, length, take, Option, Some, None}
 use Rattle.ty_model.specs.Paths.{onto_first}
 use Rattle.ty_model.specs.Disk.{Told}
-use Rattle.tinymist_session.specs.Command.{Command}
-use Rattle.tinymist_session.specs.Grammar.{command_of}
-use Rattle.tinymist_session.specs.Reply.{reply_line}
+use Rattle.session_grammar.specs.Command.{Command}
+use Rattle.session_grammar.specs.Grammar.{command_of}
+use Rattle.session_grammar.specs.Reply.{reply_line}
 use Rattle.tinymist_session.specs.Machine.{State, opening, step}
 
 -- the most bytes of a line without its LF, and the most lines
@@ -12,7 +12,7 @@ pub record Limits : Type 0 where
   pub max_line : ℕ
   pub max_lines : ℕ
 
--- the limits of a session whose words don't state any
+-- the limits of a session whose arguments don't state any
 abbrev pub default_limits : Limits
 default_limits = record { max_line = 16777216; max_lines = 1000000 }
 
@@ -26,7 +26,7 @@ abbrev pub ended : List (List ℕ) → List ℕ
 ended [] = []
 ended (line ∷ lines) = line ++ 10 ∷ ended lines
 
--- what a good line reads as: one that isn't too long and is a sentence
+-- what a good line reads as: one that isn't too long and is a command
 abbrev pub good_line : Limits → List ℕ → Option Command
 good_line limits line = if nat_le (length line) limits.max_line then command_of line else None
 

@@ -1,13 +1,19 @@
 -- What the code keeps of a state: for each space its number, its last version and change revisions, and what has a tag.
-use Rattle.std.specs.Prelude.{◌≡◌, ◌≢◌, ℕ, ◌-◌, ◌==◌, if◌then◌else◌, List, [], ◌∷◌, map, max, slice_get, Option, Some, None}
+use Rattle.std.specs.Prelude.{◌≡◌, ◌≢◌, ℕ, ◌-◌, ◌==◌, if◌then◌else◌, List, [], ◌∷◌, map, max, slice_get, Option, Some, None, Result, Ok, Err, String, string_bytes, ⊤}
 use Rattle.std.specs.FinMap as finmap
+use Rattle.std.specs.declared.alloc.Global.{Global}
 use Rattle.ty_model.specs.Places.{Resolver}
+use Rattle.ty_model.specs.Values.{Answer, Content, Refused}
 use Rattle.ty_model.specs.Version.{Version}
 use Rattle.ty_model.specs.Held.{Kept, version_of, Standing}
 use Rattle.ty_model.specs.Space.{Space}
+use Rattle.ty_syntax.specs.Error.{refusal_of}
+use Rattle.ty_syntax.specs.declared.error.FileFault.{FileFault}
+use Rattle.ty_syntax.specs.declared.error.FileFault.TheVariants.{File, OutOfMemory}
 use Rattle.tinymist_vfs.specs.declared.ids.resolver.MockRootResolver.{MockRootResolver}
-use Rattle.tinymist_session.specs.declared.tagged.TaggedIds.{TaggedIds}
+use Rattle.tinymist_session.specs.declared.machine.tags.TaggedIds.{TaggedIds}
 use Rattle.tinymist_session.specs.declared.machine.Machine.{Machine}
+use Rattle.session_grammar.specs.Command.{Target, Live, View}
 use Rattle.tinymist_session.specs.Machine.{State}
 
 -- the packages of the session's resolver: none
@@ -68,10 +74,17 @@ abbrev pub kept_at : List (Kept MockRootResolver) → ℕ → Option (Kept MockR
 kept_at views k = if k == 0 then None else slice_get views (k - 1)
 
 -- what is kept of a target
-abbrev pub target_kept : Kept MockRootResolver → List (Kept MockRootResolver) → ℕ → Option (Kept MockRootResolver)
-target_kept live views target = if target == 0 then Some live else kept_at views target
+abbrev pub target_kept : Kept MockRootResolver → List (Kept MockRootResolver) → Target → Option (Kept MockRootResolver)
+target_kept live views Live = Some live
+target_kept live views (View k) = kept_at views k
 
--- each space that is there, but a target, is kept as it was
-abbrev pub KeepsOthers : Option ℕ → Machine → Machine → Type 0
-KeepsOthers target before after = (k : ℕ) (space : Kept MockRootResolver) → target ≢ Some k
-    → target_kept before.live before.views.items k ≡ Some space → target_kept after.live after.views.items k ≡ Some space
+-- each space that is there, but the one of a target, is kept as it was
+abbrev pub KeepsOthers : Option Target → Machine → Machine → Type 0
+KeepsOthers target before after = (other : Target) (space : Kept MockRootResolver) → target ≢ Some other
+    → target_kept before.live before.views.items other ≡ Some space → target_kept after.live after.views.items other ≡ Some space
+
+-- the text that is given is that of this answer, or the error is its refusal
+abbrev pub GivesText : Answer → Result (String Global) FileFault → Type 0
+GivesText answer (Ok text) = answer ≡ Content (string_bytes text)
+GivesText answer (Err (File error)) = answer ≡ Refused (refusal_of error)
+GivesText answer (Err OutOfMemory) = ⊤

@@ -3,12 +3,12 @@ use Rattle.std.specs.Prelude.{◌≡◌, ℕ, ◌+◌, ◌-◌, ◌≤◌, Bool,
 use Rattle.std.specs.Io.KnownBytes.{append_known, prepend_known}
 use Rattle.ty_model.specs.Disk.{Told}
 use Rattle.ty_model.specs.Held.{Kept}
-use Rattle.tinymist_session.specs.declared.tagged.TaggedIds.{TaggedIds}
+use Rattle.tinymist_session.specs.declared.machine.tags.TaggedIds.{TaggedIds}
 use Rattle.tinymist_vfs.specs.declared.ids.resolver.MockRootResolver.{MockRootResolver}
-use Rattle.tinymist_session.specs.Command.{Command}
-use Rattle.tinymist_session.specs.ByteSink.{TakesFront}
-use Rattle.tinymist_session.specs.Reply.{reply_line}
-use Rattle.tinymist_session.specs.Lf.{IsLine}
+use Rattle.session_grammar.specs.Command.{Command}
+use Rattle.session_lines.specs.ByteSink.{TakesFront}
+use Rattle.session_grammar.specs.Reply.{reply_line}
+use Rattle.session_lines.specs.Lf.{IsLine}
 use Rattle.tinymist_session.specs.Machine.{State, Stepped, step}
 use Rattle.tinymist_session.specs.Session as session
 use Rattle.tinymist_session.specs.Session.{End, Whole, Bad, lines_of, good_line, good_commands, end_with, replies_from}
@@ -26,7 +26,7 @@ TurnReads command n (Err OutOfMemory) = ⊤
 TurnReads command n (Err ReadFault) = ⊥
 TurnReads command n (Err Full) = ⊥
 
--- the step was taken, and its reply is what the sink took; at a fault a front of it
+-- the step was taken, and its reply is what the sink took; at a fault a prefix of it
 abbrev pub TurnSays : Stepped → Option (List ℕ) → Option (List ℕ) → Kept MockRootResolver → List (Kept MockRootResolver) → TaggedIds → Result (Unit {0}) SessionFault → Type 0
 TurnSays stepped old new live views tags (Ok done) = IsShown live views tags stepped.state × (new ≡ append_known old (reply_line stepped.reply))
 TurnSays stepped old new live views tags (Err fault) = TakesFront old new (reply_line stepped.reply)

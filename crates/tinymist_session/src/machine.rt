@@ -4,17 +4,21 @@ ghost use Rattle.std.specs.Option.{option_map, option_copied};
 ghost use Rattle.ty_model.specs.Batch as batch;
 ghost use Rattle.ty_model.specs.Disk.{Told, IsFixed};
 ghost use Rattle.tinymist_vfs.specs.Items.{clean_item};
-ghost use Rattle.tinymist_session.specs.Grammar.{answer_at};
+ghost use Rattle.session_grammar.specs.Command.{View};
+ghost use Rattle.session_grammar.specs.Grammar.{answer_at};
 ghost use Rattle.tinymist_session.specs.Machine as plain;
-ghost use Rattle.tinymist_session.specs.Reply as plain_reply;
-ghost use Rattle.tinymist_session.specs.Said.{reply_of, command_of, content_said, id_said};
+ghost use Rattle.session_grammar.specs.Reply as replies;
+ghost use Rattle.session_grammar.specs.Plain.{plain_reply, plain_command, plain_target, plain_content, plain_id};
 ghost use Rattle.tinymist_session.specs.Shown.{MachineShows, KeepsOthers, kept_at, target_kept, top_of, next_number};
 
-use crate::command::Command;
-use crate::content::{ContentWord, IdWord};
-use crate::reply::Reply;
-use crate::space::{edit_space, snapshot_of};
-use crate::tagged::TaggedIds;
+use session_grammar::{Command, ContentWord, IdWord, Reply, Target};
+
+mod questions;
+mod spaces;
+pub(crate) mod tags;
+
+use crate::machine::spaces::{edit_space, snapshot_of};
+use crate::machine::tags::TaggedIds;
 use std::alloc::Global;
 use tinymist_vfs::{Item, MockRootResolver, Vfs, WorkspaceResolver};
 use ty_cells::PathAccessModel;
@@ -58,9 +62,9 @@ impl Machine {
     ) -> Result<Reply, OutOfMemory>
         requires revision { top_of self.old < 2 ^ 64 - 1 }
         requires number { next_number self.old.tags < 2 ^ 64 - 1 }
-        ensures reply { (told : Told) (s : plain.State) → M.told disk.old ≡ Some told → MachineShows self.old s → IfOk result (λ r. reply_of r ≡ (plain.step s told (command_of command)).reply) }
-        ensures state { (told : Told) (s : plain.State) → M.told disk.old ≡ Some told → MachineShows self.old s → OnOk result (MachineShows self.new (plain.step s told (command_of command)).state) }
-        ensures others { KeepsOthers (plain.edited_space (command_of command)) self.old self.new }
+        ensures reply { (told : Told) (s : plain.State) → M.told disk.old ≡ Some told → MachineShows self.old s → IfOk result (λ r. plain_reply r ≡ (plain.step s told (plain_command command)).reply) }
+        ensures state { (told : Told) (s : plain.State) → M.told disk.old ≡ Some told → MachineShows self.old s → OnOk result (MachineShows self.new (plain.step s told (plain_command command)).state) }
+        ensures others { KeepsOthers (plain.edited_space (plain_command command)) self.old self.new }
         ensures left { (told : Told) → M.told disk.old ≡ Some told → IsFixed told → M.told disk.new ≡ Some told }
         ensures revision { top_of self.new ≤ top_of self.old + 1 }
         ensures number { next_number self.new.tags ≤ next_number self.old.tags + 1 }
@@ -88,19 +92,36 @@ impl Machine {
     }
 
     /// Edits a target, and answers its revision.
-    fn edit_target(&mut self, target: u64, item: Item) -> Result<Reply, OutOfMemory>
+    fn edit_target(&mut self, target: Target, item: Item) -> Result<Reply, OutOfMemory>
         requires { top_of self.old < 2 ^ 64 - 1 }
-        ensures reply { (s : plain.State) → MachineShows self.old s → IfOk result (λ r. reply_of r ≡ (plain.edit_step s target (clean_item item)).reply) }
-        ensures state { (s : plain.State) → MachineShows self.old s → OnOk result (MachineShows self.new (plain.edit_step s target (clean_item item)).state) }
-        ensures others { KeepsOthers (Some target) self.old self.new }
+        ensures reply { (s : plain.State) → MachineShows self.old s → IfOk result (λ r. plain_reply r ≡ (plain.edit_step s (plain_target target) (clean_item item)).reply) }
+        ensures state { (s : plain.State) → MachineShows self.old s → OnOk result (MachineShows self.new (plain.edit_step s (plain_target target) (clean_item item)).state) }
+        ensures others { KeepsOthers (Some (plain_target target)) self.old self.new }
         ensures revision { top_of self.new ≤ top_of self.old + 1 }
         ensures tags { self.new.tags ≡ self.old.tags }
     {
-        if target == 0 {
-            let revision = edit_space(&mut self.live, item)?;
-            return Ok(Reply::AtRevision(revision));
+        match target {
+            Target::Live => {
+                let revision = edit_space(&mut self.live, item)?;
+                Ok(Reply::AtRevision(revision))
+            }
+            Target::View(view) => self.edit_view(view, item),
         }
-        let k = (target - 1) as usize;
+    }
+
+    /// Edits a view, and answers its revision.
+    fn edit_view(&mut self, view: u64, item: Item) -> Result<Reply, OutOfMemory>
+        requires { top_of self.old < 2 ^ 64 - 1 }
+        ensures reply { (s : plain.State) → MachineShows self.old s → IfOk result (λ r. plain_reply r ≡ (plain.edit_step s (View view) (clean_item item)).reply) }
+        ensures state { (s : plain.State) → MachineShows self.old s → OnOk result (MachineShows self.new (plain.edit_step s (View view) (clean_item item)).state) }
+        ensures others { KeepsOthers (Some (View view)) self.old self.new }
+        ensures revision { top_of self.new ≤ top_of self.old + 1 }
+        ensures tags { self.new.tags ≡ self.old.tags }
+    {
+        if view == 0 {
+            return Ok(Reply::BadView);
+        }
+        let k = (view - 1) as usize;
         if k >= self.views.len() {
             return Ok(Reply::BadView);
         }
@@ -111,14 +132,14 @@ impl Machine {
     /// Maps an id of a target, and answers its revision.
     fn map_id(
         &mut self,
-        target: u64,
+        target: Target,
         word: &IdWord,
         content: ContentWord,
     ) -> Result<Reply, OutOfMemory>
         requires { top_of self.old < 2 ^ 64 - 1 }
-        ensures reply { (s : plain.State) → MachineShows self.old s → IfOk result (λ r. reply_of r ≡ (plain.id_edit_step s target (id_said word.now) (λ id. batch.MapId id (answer_at id.vpath (content_said content)))).reply) }
-        ensures state { (s : plain.State) → MachineShows self.old s → OnOk result (MachineShows self.new (plain.id_edit_step s target (id_said word.now) (λ id. batch.MapId id (answer_at id.vpath (content_said content)))).state) }
-        ensures others { KeepsOthers (Some target) self.old self.new }
+        ensures reply { (s : plain.State) → MachineShows self.old s → IfOk result (λ r. plain_reply r ≡ (plain.id_edit_step s (plain_target target) (plain_id word.now) (λ id. batch.MapId id (answer_at id.vpath (plain_content content)))).reply) }
+        ensures state { (s : plain.State) → MachineShows self.old s → OnOk result (MachineShows self.new (plain.id_edit_step s (plain_target target) (plain_id word.now) (λ id. batch.MapId id (answer_at id.vpath (plain_content content)))).state) }
+        ensures others { KeepsOthers (Some (plain_target target)) self.old self.new }
         ensures revision { top_of self.new ≤ top_of self.old + 1 }
         ensures tags { self.new.tags ≡ self.old.tags }
     {
@@ -133,11 +154,11 @@ impl Machine {
     }
 
     /// Takes an id out of a target's overlay, and answers its revision.
-    fn unmap_id(&mut self, target: u64, word: &IdWord) -> Result<Reply, OutOfMemory>
+    fn unmap_id(&mut self, target: Target, word: &IdWord) -> Result<Reply, OutOfMemory>
         requires { top_of self.old < 2 ^ 64 - 1 }
-        ensures reply { (s : plain.State) → MachineShows self.old s → IfOk result (λ r. reply_of r ≡ (plain.id_edit_step s target (id_said word.now) batch.UnmapId).reply) }
-        ensures state { (s : plain.State) → MachineShows self.old s → OnOk result (MachineShows self.new (plain.id_edit_step s target (id_said word.now) batch.UnmapId).state) }
-        ensures others { KeepsOthers (Some target) self.old self.new }
+        ensures reply { (s : plain.State) → MachineShows self.old s → IfOk result (λ r. plain_reply r ≡ (plain.id_edit_step s (plain_target target) (plain_id word.now) batch.UnmapId).reply) }
+        ensures state { (s : plain.State) → MachineShows self.old s → OnOk result (MachineShows self.new (plain.id_edit_step s (plain_target target) (plain_id word.now) batch.UnmapId).state) }
+        ensures others { KeepsOthers (Some (plain_target target)) self.old self.new }
         ensures revision { top_of self.new ≤ top_of self.old + 1 }
         ensures tags { self.new.tags ≡ self.old.tags }
     {
@@ -153,7 +174,7 @@ impl Machine {
     /// Takes a snapshot of the live state, and answers its number.
     fn take_snapshot(&mut self) -> Result<usize, OutOfMemory>
         requires { self.old.tags.counters.next_space < 2 ^ 64 - 1 }
-        ensures reply { (s : plain.State) → MachineShows self.old s → IfOk result (λ n. plain_reply.ViewNumber n ≡ (plain.snapshot_step s).reply) }
+        ensures reply { (s : plain.State) → MachineShows self.old s → IfOk result (λ n. replies.ViewNumber n ≡ (plain.snapshot_step s).reply) }
         ensures state { (s : plain.State) → MachineShows self.old s → OnOk result (MachineShows self.new (plain.snapshot_step s).state) }
         ensures others { KeepsOthers None self.old self.new }
         ensures revision { top_of self.new ≤ top_of self.old }
@@ -169,9 +190,9 @@ impl Machine {
         }
     }
 
-    /// The id of a word.
+    /// The id that a field names, if any.
     pub(crate) fn id_of(&self, word: &IdWord) -> Result<Option<FileId>, OutOfMemory>
-        ensures { IfOk result (λ id. id ≡ plain.id_for self.now.tags.ids.items (id_said word.now)) }
+        ensures { IfOk result (λ id. id ≡ plain.id_for self.now.tags.ids.items (plain_id word.now)) }
     {
         match word {
             IdWord::Path(path) => WorkspaceResolver::file_of(self.alloc, path),
@@ -183,13 +204,13 @@ impl Machine {
     }
 
     /// The space of a target.
-    pub(crate) fn space(&self, target: u64) -> Option<&Vfs<MockRootResolver>>
-        ensures { option_copied result ≡ target_kept self.now.live self.now.views.items target }
+    pub(crate) fn space(&self, target: Target) -> Option<&Vfs<MockRootResolver>>
+        ensures { option_copied result ≡ target_kept self.now.live self.now.views.items (plain_target target) }
     {
-        if target == 0 {
-            return Some(&self.live);
+        match target {
+            Target::Live => Some(&self.live),
+            Target::View(view) => self.view(view),
         }
-        self.view(target)
     }
 
     /// View k, where 0 is none.

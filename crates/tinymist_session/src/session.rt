@@ -3,25 +3,23 @@ ghost use Rattle.std.specs.Prelude.{◌≡◌, ◌⊎◌, ◌+◌, ◌^◌, ◌<
 ghost use Rattle.std.specs.Io.KnownBytes.{IsAtEnd, append_known};
 ghost use Rattle.ty_model.specs.Faults.{Rose};
 ghost use Rattle.ty_model.specs.Disk.{Told, IsFixed};
-ghost use Rattle.tinymist_session.specs.LineSource.{HasCause};
-ghost use Rattle.tinymist_session.specs.LineReader.{ahead, held_of, line_of};
-ghost use Rattle.tinymist_session.specs.Command.{Command};
-ghost use Rattle.tinymist_session.specs.Grammar.{command_of};
+ghost use Rattle.session_lines.specs.LineSource.{HasCause, TakenWithin};
+ghost use Rattle.session_lines.specs.ByteSink.{HasRefused};
+ghost use Rattle.session_lines.specs.LineReader.{ahead, held_of, line_of};
+ghost use Rattle.session_grammar.specs.Command.{Command};
+ghost use Rattle.session_grammar.specs.Grammar.{command_of};
 ghost use Rattle.tinymist_session.specs.Machine.{State, step, opening, LeavesOthers};
 ghost use Rattle.tinymist_session.specs.Session.{end_of, replies_to};
 ghost use Rattle.tinymist_session.specs.Session as plain;
 ghost use Rattle.tinymist_session.specs.Shown.{MachineShows, top_of, next_number};
-ghost use Rattle.tinymist_session.specs.Run.{EndFits, Written, UnlessCutOff, Received, replies_received, TakenWithin, most_bytes};
+ghost use Rattle.tinymist_session.specs.Run.{EndFits, Written, UnlessCutOff, Received, replies_received, most_bytes};
 ghost use Rattle.tinymist_session.specs.Turns.{TurnReads, TurnSays, PassEnds, PassSays, Broken, ends, replies};
-ghost use Rattle.tinymist_session.specs.Said.{limits_said};
+ghost use Rattle.tinymist_session.specs.Arguments.{plain_limits};
 
-use crate::command::read_command;
-use crate::limits::Limits;
 use crate::machine::Machine;
-use crate::reader::{Filled, LineRead, LineReader};
-use crate::reply::put_line;
-use crate::sink::{ByteSink, FlushStep, write_all};
-use crate::source::LineSource;
+use crate::program::arguments::Limits;
+use session_grammar::{put_line, read_command};
+use session_lines::{ByteSink, Filled, FlushStep, LineRead, LineReader, LineSource, write_all};
 use std::alloc::{AllocError, Global};
 use thiserror::Error;
 use ty_cells::PathAccessModel;
@@ -36,7 +34,7 @@ pub enum SessionFault {
     /// The sink failed, or took nothing of a piece that isn't empty.
     #[error("write fault")]
     WriteFault,
-    /// The line of this number, from 1 on, is too long or is no sentence.
+    /// The line of this number, from 1 on, is too long or is no command.
     #[error("bad line {0}")]
     BadLine(u64),
     /// There are more lines than the limit.
@@ -102,16 +100,16 @@ impl Session {
         requires revision { top_of self.old.machine < 2 ^ 63 }
         requires number { next_number self.old.machine.tags < 2 ^ 63 }
         ensures reads { TurnReads (command_of (line_of self.old.reader)) number result }
-        ensures quiet { command_of (line_of self.old.reader) ≡ None → W.taken sink.new ≡ W.taken sink.old }
+        ensures quiet { command_of (line_of self.old.reader) ≡ None → (W.seen sink.new).taken ≡ (W.seen sink.old).taken }
         ensures says { (told : Told) (s : State) (command : Command) → M.told disk.old ≡ Some told → MachineShows self.old.machine s
-            → command_of (line_of self.old.reader) ≡ Some command → TurnSays (step s told command) (W.taken sink.old) (W.taken sink.new) self.new.machine.live self.new.machine.views.items self.new.machine.tags result }
+            → command_of (line_of self.old.reader) ≡ Some command → TurnSays (step s told command) (W.seen sink.old).taken (W.seen sink.new).taken self.new.machine.live self.new.machine.views.items self.new.machine.tags result }
         ensures left { (told : Told) → M.told disk.old ≡ Some told → IsFixed told → M.told disk.new ≡ Some told }
         ensures reader { self.new.reader ≡ self.old.reader }
         ensures revision { top_of self.new.machine ≤ top_of self.old.machine + 1 }
         ensures number { next_number self.new.machine.tags ≤ next_number self.old.machine.tags + 1 }
-        ensures faults { W.faults sink.old ≤ W.faults sink.new }
-        ensures dry { W.dry sink.old ≤ W.dry sink.new }
-        ensures cause { IsErrOf result SessionFault.WriteFault → Rose (W.faults sink.old) (W.faults sink.new) ⊎ Rose (W.dry sink.old) (W.dry sink.new) }
+        ensures faults { (W.seen sink.old).faults ≤ (W.seen sink.new).faults }
+        ensures dry { (W.seen sink.old).dry ≤ (W.seen sink.new).dry }
+        ensures cause { IsErrOf result SessionFault.WriteFault → HasRefused (W.seen sink.old) (W.seen sink.new) }
     {
         let Some(command) = read_command(self.alloc, self.reader.line())? else {
             return Err(SessionFault::BadLine(number));
@@ -137,21 +135,21 @@ impl Session {
         requires room { n < limits.max_lines }
         requires revision { top_of self.old.machine < 2 ^ 63 }
         requires number { next_number self.old.machine.tags < 2 ^ 63 }
-        ensures ends { (rest : List ℕ) → ahead self.old.reader (S.left source.old) ≡ Some rest → PassEnds (limits_said limits) n rest (ahead self.new.reader (S.left source.new)) result }
-        ensures says { (rest : List ℕ) (told : Told) (s : State) → ahead self.old.reader (S.left source.old) ≡ Some rest → M.told disk.old ≡ Some told → MachineShows self.old.machine s
-            → PassSays (limits_said limits) told s n rest (ahead self.new.reader (S.left source.new)) (W.taken sink.old) (W.taken sink.new) self.new.machine.live self.new.machine.views.items self.new.machine.tags result }
-        ensures received { (rest : List ℕ) → ahead self.old.reader (S.left source.old) ≡ Some rest → IsErrOf result SessionFault.ReadFault → Broken (limits_said limits) rest (S.left source.new) }
-        ensures quiet { IsErrOf result SessionFault.ReadFault → W.taken sink.new ≡ W.taken sink.old }
-        ensures flushed_before_read { IsErrOf result SessionFault.ReadFault → IsTrue (W.flushed sink.new) }
-        ensures bounded { (rest : List ℕ) → ahead self.old.reader (S.left source.old) ≡ Some rest → TakenWithin (limits.max_line + 65536) rest (S.left source.new) }
+        ensures ends { (rest : List ℕ) → ahead self.old.reader (S.seen source.old).left ≡ Some rest → PassEnds (plain_limits limits) n rest (ahead self.new.reader (S.seen source.new).left) result }
+        ensures says { (rest : List ℕ) (told : Told) (s : State) → ahead self.old.reader (S.seen source.old).left ≡ Some rest → M.told disk.old ≡ Some told → MachineShows self.old.machine s
+            → PassSays (plain_limits limits) told s n rest (ahead self.new.reader (S.seen source.new).left) (W.seen sink.old).taken (W.seen sink.new).taken self.new.machine.live self.new.machine.views.items self.new.machine.tags result }
+        ensures received { (rest : List ℕ) → ahead self.old.reader (S.seen source.old).left ≡ Some rest → IsErrOf result SessionFault.ReadFault → Broken (plain_limits limits) rest (S.seen source.new).left }
+        ensures quiet { IsErrOf result SessionFault.ReadFault → (W.seen sink.new).taken ≡ (W.seen sink.old).taken }
+        ensures flushed_before_read { IsErrOf result SessionFault.ReadFault → IsTrue (W.seen sink.new).flushed }
+        ensures bounded { (rest : List ℕ) → ahead self.old.reader (S.seen source.old).left ≡ Some rest → TakenWithin (limits.max_line + 65536) rest (S.seen source.new).left }
         ensures left { (told : Told) → M.told disk.old ≡ Some told → IsFixed told → M.told disk.new ≡ Some told }
-        ensures at_end { result ≡ Ok false → IsAtEnd (ahead self.new.reader (S.left source.new)) }
+        ensures at_end { result ≡ Ok false → IsAtEnd (ahead self.new.reader (S.seen source.new).left) }
         ensures revision { top_of self.new.machine ≤ top_of self.old.machine + 1 }
         ensures number { next_number self.new.machine.tags ≤ next_number self.old.machine.tags + 1 }
-        ensures read_cause { HasCause (IsErrOf result SessionFault.ReadFault) (S.faults source.old) (S.faults source.new) }
-        ensures faults { W.faults sink.old ≤ W.faults sink.new }
-        ensures dry { W.dry sink.old ≤ W.dry sink.new }
-        ensures write_cause { IsErrOf result SessionFault.WriteFault → Rose (W.faults sink.old) (W.faults sink.new) ⊎ Rose (W.dry sink.old) (W.dry sink.new) }
+        ensures read_cause { HasCause (IsErrOf result SessionFault.ReadFault) (S.seen source.old).faults (S.seen source.new).faults }
+        ensures faults { (W.seen sink.old).faults ≤ (W.seen sink.new).faults }
+        ensures dry { (W.seen sink.old).dry ≤ (W.seen sink.new).dry }
+        ensures write_cause { IsErrOf result SessionFault.WriteFault → HasRefused (W.seen sink.old) (W.seen sink.new) }
     {
         let number = u64::from(n) + 1;
         match self.reader.read_line(source, sink, limits.max_line) {
@@ -177,17 +175,17 @@ impl Session {
         source: &mut S,
         sink: &mut W,
     ) -> Result<(), SessionFault>
-        ensures ends { (limits : plain.Limits) (rest : List ℕ) → ahead self.old.reader (S.left source.old) ≡ Some rest → EndFits (ends limits limits.max_lines rest) result }
-        ensures silent { (limits : plain.Limits) (told : Told) (s : State) (rest : List ℕ) → ahead self.old.reader (S.left source.old) ≡ Some rest → UnlessCutOff result (replies limits told s limits.max_lines rest ≡ []) }
-        ensures received { (rest : List ℕ) → ahead self.old.reader (S.left source.old) ≡ Some rest → IsErrOf result SessionFault.ReadFault → S.left source.new ≡ Some rest }
-        ensures bounded { (rest : List ℕ) → ahead self.old.reader (S.left source.old) ≡ Some rest → TakenWithin 65536 rest (S.left source.new) }
-        ensures taken { W.taken sink.new ≡ W.taken sink.old }
-        ensures at_end { OnOk result (IsAtEnd (ahead self.new.reader (S.left source.new))) }
-        ensures flushed_before_read { IsErrOf result SessionFault.ReadFault → IsTrue (W.flushed sink.new) }
-        ensures read_cause { HasCause (IsErrOf result SessionFault.ReadFault) (S.faults source.old) (S.faults source.new) }
-        ensures faults { W.faults sink.old ≤ W.faults sink.new }
-        ensures dry { W.dry sink.old ≤ W.dry sink.new }
-        ensures write_cause { IsErrOf result SessionFault.WriteFault → Rose (W.faults sink.old) (W.faults sink.new) ⊎ Rose (W.dry sink.old) (W.dry sink.new) }
+        ensures ends { (limits : plain.Limits) (rest : List ℕ) → ahead self.old.reader (S.seen source.old).left ≡ Some rest → EndFits (ends limits limits.max_lines rest) result }
+        ensures silent { (limits : plain.Limits) (told : Told) (s : State) (rest : List ℕ) → ahead self.old.reader (S.seen source.old).left ≡ Some rest → UnlessCutOff result (replies limits told s limits.max_lines rest ≡ []) }
+        ensures received { (rest : List ℕ) → ahead self.old.reader (S.seen source.old).left ≡ Some rest → IsErrOf result SessionFault.ReadFault → (S.seen source.new).left ≡ Some rest }
+        ensures bounded { (rest : List ℕ) → ahead self.old.reader (S.seen source.old).left ≡ Some rest → TakenWithin 65536 rest (S.seen source.new).left }
+        ensures taken { (W.seen sink.new).taken ≡ (W.seen sink.old).taken }
+        ensures at_end { OnOk result (IsAtEnd (ahead self.new.reader (S.seen source.new).left)) }
+        ensures flushed_before_read { IsErrOf result SessionFault.ReadFault → IsTrue (W.seen sink.new).flushed }
+        ensures read_cause { HasCause (IsErrOf result SessionFault.ReadFault) (S.seen source.old).faults (S.seen source.new).faults }
+        ensures faults { (W.seen sink.old).faults ≤ (W.seen sink.new).faults }
+        ensures dry { (W.seen sink.old).dry ≤ (W.seen sink.new).dry }
+        ensures write_cause { IsErrOf result SessionFault.WriteFault → HasRefused (W.seen sink.old) (W.seen sink.new) }
     {
         match self.reader.look_ahead(source, sink) {
             Filled::Some => Err(SessionFault::Full),
@@ -209,20 +207,20 @@ impl Session {
         requires revision { top_of self.old.machine ≡ 2 }
         requires number { next_number self.old.machine.tags ≡ 3 }
         requires held { held_of self.old.reader ≡ [] }
-        ensures ends { (input : List ℕ) → S.left source.old ≡ Some input → EndFits (end_of (limits_said limits) input) result }
-        ensures written { (input : List ℕ) (told : Told) → S.left source.old ≡ Some input → M.told disk.old ≡ Some told → IsFixed told
-            → Written (replies_to (limits_said limits) told input) (W.taken sink.old) (W.taken sink.new) result }
-        ensures received { (input : List ℕ) → S.left source.old ≡ Some input → IsErrOf result SessionFault.ReadFault → Received (limits_said limits) input (S.left source.new) }
-        ensures answered { (input : List ℕ) (told : Told) → S.left source.old ≡ Some input → M.told disk.old ≡ Some told → IsFixed told → IsErrOf result SessionFault.ReadFault
-            → (lines : Received (limits_said limits) input (S.left source.new)) × (W.taken sink.new ≡ append_known (W.taken sink.old) (replies_received (limits_said limits) told input (S.left source.new) lines)) }
-        ensures bounded { (input : List ℕ) → S.left source.old ≡ Some input → TakenWithin (most_bytes (limits_said limits)) input (S.left source.new) }
-        ensures read { OnOk result (IsAtEnd (S.left source.new)) }
+        ensures ends { (input : List ℕ) → (S.seen source.old).left ≡ Some input → EndFits (end_of (plain_limits limits) input) result }
+        ensures written { (input : List ℕ) (told : Told) → (S.seen source.old).left ≡ Some input → M.told disk.old ≡ Some told → IsFixed told
+            → Written (replies_to (plain_limits limits) told input) (W.seen sink.old).taken (W.seen sink.new).taken result }
+        ensures received { (input : List ℕ) → (S.seen source.old).left ≡ Some input → IsErrOf result SessionFault.ReadFault → Received (plain_limits limits) input (S.seen source.new).left }
+        ensures answered { (input : List ℕ) (told : Told) → (S.seen source.old).left ≡ Some input → M.told disk.old ≡ Some told → IsFixed told → IsErrOf result SessionFault.ReadFault
+            → (lines : Received (plain_limits limits) input (S.seen source.new).left) × ((W.seen sink.new).taken ≡ append_known (W.seen sink.old).taken (replies_received (plain_limits limits) told input (S.seen source.new).left lines)) }
+        ensures bounded { (input : List ℕ) → (S.seen source.old).left ≡ Some input → TakenWithin (most_bytes (plain_limits limits)) input (S.seen source.new).left }
+        ensures read { OnOk result (IsAtEnd (S.seen source.new).left) }
         ensures left { (told : Told) → M.told disk.old ≡ Some told → IsFixed told → M.told disk.new ≡ Some told }
-        ensures flushed_before_read { IsErrOf result SessionFault.ReadFault → IsTrue (W.flushed sink.new) }
-        ensures read_cause { IsErrOf result SessionFault.ReadFault → Rose (S.faults source.old) (S.faults source.new) }
-        ensures faults { W.faults sink.old ≤ W.faults sink.new }
-        ensures dry { W.dry sink.old ≤ W.dry sink.new }
-        ensures write_cause { IsErrOf result SessionFault.WriteFault → Rose (W.faults sink.old) (W.faults sink.new) ⊎ Rose (W.dry sink.old) (W.dry sink.new) }
+        ensures flushed_before_read { IsErrOf result SessionFault.ReadFault → IsTrue (W.seen sink.new).flushed }
+        ensures read_cause { IsErrOf result SessionFault.ReadFault → Rose (S.seen source.old).faults (S.seen source.new).faults }
+        ensures faults { (W.seen sink.old).faults ≤ (W.seen sink.new).faults }
+        ensures dry { (W.seen sink.old).dry ≤ (W.seen sink.new).dry }
+        ensures write_cause { IsErrOf result SessionFault.WriteFault → HasRefused (W.seen sink.old) (W.seen sink.new) }
     {
         for n in 0..limits.max_lines {
             match self.pass(source, sink, disk, limits, n) {
@@ -240,13 +238,13 @@ impl Session {
 #[tactic(auto, using(crate::proofs::Told::flushed_or_rose))]
 fn finish<W: ByteSink>(sink: &mut W, answer: Result<(), SessionFault>) -> Result<(), SessionFault>
     ensures same { (result ≡ answer) ⊎ (result ≡ Err SessionFault.WriteFault) }
-    ensures taken { W.taken sink.new ≡ W.taken sink.old }
-    ensures flushed { UnlessCutOff result (IsTrue (W.flushed sink.new)) }
-    ensures flushed_without_memory { IsErrOf answer SessionFault.OutOfMemory → IsTrue (W.flushed sink.new) ⊎ Rose (W.faults sink.old) (W.faults sink.new) }
+    ensures taken { (W.seen sink.new).taken ≡ (W.seen sink.old).taken }
+    ensures flushed { UnlessCutOff result (IsTrue (W.seen sink.new).flushed) }
+    ensures flushed_without_memory { IsErrOf answer SessionFault.OutOfMemory → IsTrue (W.seen sink.new).flushed ⊎ Rose (W.seen sink.old).faults (W.seen sink.new).faults }
     ensures untouched { IsErrOf answer SessionFault.ReadFault ⊎ IsErrOf answer SessionFault.WriteFault → sink.new ≡ sink.old }
-    ensures faults { W.faults sink.old ≤ W.faults sink.new }
-    ensures dry { W.dry sink.old ≤ W.dry sink.new }
-    ensures cause { IsErrOf result SessionFault.WriteFault → IsErrOf answer SessionFault.WriteFault ⊎ Rose (W.faults sink.old) (W.faults sink.new) }
+    ensures faults { (W.seen sink.old).faults ≤ (W.seen sink.new).faults }
+    ensures dry { (W.seen sink.old).dry ≤ (W.seen sink.new).dry }
+    ensures cause { IsErrOf result SessionFault.WriteFault → IsErrOf answer SessionFault.WriteFault ⊎ Rose (W.seen sink.old).faults (W.seen sink.new).faults }
 {
     match answer {
         Err(SessionFault::ReadFault) => answer,
@@ -270,7 +268,6 @@ fn finish<W: ByteSink>(sink: &mut W, answer: Result<(), SessionFault>) -> Result
 /// `BadLine(n)` and `Full` exactly where the input ends so, `ReadFault` and `WriteFault` only where a count
 /// of the source or the sink rose, and out of memory, after which what was
 /// answered is flushed too.
-#[tactic(auto, using(crate::proofs::Others::leaves_others))]
 pub fn run_session<S: LineSource, W: ByteSink, M: PathAccessModel>(
     alloc: Global,
     source: &mut S,
@@ -278,20 +275,27 @@ pub fn run_session<S: LineSource, W: ByteSink, M: PathAccessModel>(
     disk: &mut M,
     limits: Limits,
 ) -> Result<(), SessionFault>
-    ensures ends { (input : List ℕ) → S.left source.old ≡ Some input → EndFits (end_of (limits_said limits) input) result }
-    ensures written { (input : List ℕ) (told : Told) → S.left source.old ≡ Some input → M.told disk.old ≡ Some told → IsFixed told
-        → Written (replies_to (limits_said limits) told input) (W.taken sink.old) (W.taken sink.new) result }
-    ensures received { (input : List ℕ) → S.left source.old ≡ Some input → IsErrOf result SessionFault.ReadFault → Received (limits_said limits) input (S.left source.new) }
-    ensures answered { (input : List ℕ) (told : Told) → S.left source.old ≡ Some input → M.told disk.old ≡ Some told → IsFixed told → IsErrOf result SessionFault.ReadFault
-        → (lines : Received (limits_said limits) input (S.left source.new)) × (W.taken sink.new ≡ append_known (W.taken sink.old) (replies_received (limits_said limits) told input (S.left source.new) lines)) }
-    ensures bounded { (input : List ℕ) → S.left source.old ≡ Some input → TakenWithin (most_bytes (limits_said limits)) input (S.left source.new) }
-    ensures read { OnOk result (IsAtEnd (S.left source.new)) }
+    // What is answered.
+    ensures ends { (input : List ℕ) → (S.seen source.old).left ≡ Some input → EndFits (end_of (plain_limits limits) input) result }
+    ensures written { (input : List ℕ) (told : Told) → (S.seen source.old).left ≡ Some input → M.told disk.old ≡ Some told → IsFixed told
+        → Written (replies_to (plain_limits limits) told input) (W.seen sink.old).taken (W.seen sink.new).taken result }
+    // What was answered where a read failed.
+    ensures received { (input : List ℕ) → (S.seen source.old).left ≡ Some input → IsErrOf result SessionFault.ReadFault → Received (plain_limits limits) input (S.seen source.new).left }
+    ensures answered { (input : List ℕ) (told : Told) → (S.seen source.old).left ≡ Some input → M.told disk.old ≡ Some told → IsFixed told → IsErrOf result SessionFault.ReadFault
+        → (lines : Received (plain_limits limits) input (S.seen source.new).left) × ((W.seen sink.new).taken ≡ append_known (W.seen sink.old).taken (replies_received (plain_limits limits) told input (S.seen source.new).left lines)) }
+    // How far the input is read.
+    ensures bounded { (input : List ℕ) → (S.seen source.old).left ≡ Some input → TakenWithin (most_bytes (plain_limits limits)) input (S.seen source.new).left }
+    ensures read { OnOk result (IsAtEnd (S.seen source.new).left) }
+    // What stays.
     ensures left { (told : Told) → M.told disk.old ≡ Some told → IsFixed told → M.told disk.new ≡ Some told }
-    ensures flushed_before_read { IsErrOf result SessionFault.ReadFault → IsTrue (W.flushed sink.new) }
-    ensures flushed { UnlessCutOff result (IsTrue (W.flushed sink.new)) }
-    ensures flushed_without_memory { IsErrOf result SessionFault.OutOfMemory → IsTrue (W.flushed sink.new) ⊎ Rose (W.faults sink.old) (W.faults sink.new) }
-    ensures read_cause { IsErrOf result SessionFault.ReadFault → Rose (S.faults source.old) (S.faults source.new) }
-    ensures write_cause { IsErrOf result SessionFault.WriteFault → Rose (W.faults sink.old) (W.faults sink.new) ⊎ Rose (W.dry sink.old) (W.dry sink.new) }
+    // What has gone on.
+    ensures flushed_before_read { IsErrOf result SessionFault.ReadFault → IsTrue (W.seen sink.new).flushed }
+    ensures flushed { UnlessCutOff result (IsTrue (W.seen sink.new).flushed) }
+    ensures flushed_without_memory { IsErrOf result SessionFault.OutOfMemory → IsTrue (W.seen sink.new).flushed ⊎ Rose (W.seen sink.old).faults (W.seen sink.new).faults }
+    // What a fault comes of.
+    ensures read_cause { IsErrOf result SessionFault.ReadFault → Rose (S.seen source.old).faults (S.seen source.new).faults }
+    ensures write_cause { IsErrOf result SessionFault.WriteFault → HasRefused (W.seen sink.old) (W.seen sink.new) }
+    // What the definition of a step leaves alone.
     ensures others { LeavesOthers }
 {
     let mut session = match Session::new(alloc) {

@@ -36,8 +36,8 @@ fn main(rt: HostRuntime) -> ExitCode {
     ))
 }
 
-/// The words after the program's name, or the status where there are none to be had, whose line is told: a word
-/// that isn't UTF-8 is a bad word.
+/// The arguments after the program's name, or the status where they can't be had, whose line is told: one that isn't
+/// UTF-8 is a bad argument.
 fn words<F: ByteSink>(rt: &(impl Env + AllocGlobal), faults: &mut F) -> Result<Vec<String>, u8> {
     match env::args(rt) {
         Ok(all) => match all.skip(1).collect(rt.alloc()) {

@@ -1,6 +1,6 @@
 //! Sources that give pieces or fail, and sinks that take pieces, stop or fail.
 ghost use Rattle.std.specs.Prelude.{◌≡◌};
-ghost use Rattle.tinymist_session.specs.Memory.{are_positive};
+ghost use Rattle.session_lines.specs.Memory.{are_positive};
 
 use crate::disk::disk_of;
 use crate::session::both::{Run, sink};

@@ -1,5 +1,5 @@
 use Rattle.std.proofs.Common.{◌≡◌, drop, map}
-use Rattle.tinymist_session.specs.Lf.{IsLine}
+use Rattle.session_lines.specs.Lf.{IsLine}
 use Rattle.tinymist_session.specs.Session.{lines_of}
 use Rattle.tinymist_plain.proofs.Cuts.{cut_so_far}
 use Rattle.tinymist_plain.proofs.lines.lines_of.Given as goal

@@ -1,19 +1,18 @@
-use Rattle.std.proofs.Common.{sym, ap, ◌∙◌, List, ℕ}
+use Rattle.std.proofs.Common.{sym, ◌∙◌}
+use Rattle.std.proofs.lemmas.Result.{IfOk-weaker}
+use Rattle.std.specs.String.{string_bytes}
 use Rattle.ty_model.specs.Values.{Content, Refused}
 use Rattle.ty_syntax.specs.Error.{refusal_of}
-use Rattle.ty_syntax.specs.Lines.{place}
-use Rattle.tinymist_session.specs.Reply.{line_reply, at_reply}
-use Rattle.tinymist_session.specs.Said.{id_said}
+use Rattle.session_grammar.specs.Reply.{line_reply}
+use Rattle.session_grammar.specs.Plain.{plain_id}
 use Rattle.tinymist_plain.proofs.Answered.{source_says}
 use Rattle.tinymist_plain.proofs.state.State.line_in.Goals as goal
 
 pub returns-in-Ok-clause-reply : goal.returns-in-Ok-clause-reply
-returns-in-Ok-clause-reply g c = λ told s is kept.
-    c.place_reply.ensures
-    ∙ ap (λ (text : List ℕ). at_reply (place text c.args.offset)) c.lines.ensures
-    ∙ source_says c.args.self.now s kept told c.args.view (id_said c.args.word.now) c.in-Some.space.now c.in-Some-2.id c.in-Some.ensures (sym c.in-Some-2.is ∙ c.in_ok-id.ensures) (line_reply c.args.offset) (Content c.in-Ok.source.text) (λ v at. sym (c.in-Ok.ensures.answer told v is at))
+returns-in-Ok-clause-reply g c = λ told s is kept. IfOk-weaker c.place_reply.result _ _ (λ r same. same
+    ∙ source_says c.args.self.now s kept told c.args.view (plain_id c.args.word.now) c.in-Some.space.now c.in-Some-2.id c.in-Some.ensures (sym c.in-Some-2.is ∙ c.in_ok-id.ensures) (line_reply c.args.offset) (Content (string_bytes c.in-Ok.text)) (λ v at. sym (c.in-Ok.ensures.answer told v is at))) c.place_reply.ensures
 
 pub returns-in-Err-File-clause-reply : goal.returns-in-Err-File-clause-reply
 returns-in-Err-File-clause-reply g c = λ told s is kept.
     let says = rw c.in-Err-File.field-0-is at c.in-Err-File.ensures.answer in
-    source_says c.args.self.now s kept told c.args.view (id_said c.args.word.now) c.in-Some.space.now c.in-Some-2.id c.in-Some.ensures (sym c.in-Some-2.is ∙ c.in_ok-id.ensures) (line_reply c.args.offset) (Refused (refusal_of c.in-Err-File.error)) (λ v at. sym (says told v is at))
+    rw c.in-Err-File.field-0-is (source_says c.args.self.now s kept told c.args.view (plain_id c.args.word.now) c.in-Some.space.now c.in-Some-2.id c.in-Some.ensures (sym c.in-Some-2.is ∙ c.in_ok-id.ensures) (line_reply c.args.offset) (Refused (refusal_of c.in-Err-File.error)) (λ v at. sym (says told v is at)))

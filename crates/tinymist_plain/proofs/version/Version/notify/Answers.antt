@@ -2,7 +2,7 @@ use Rattle.std.proofs.Common.{◌∙◌, ap, map, List, ℕ}
 use Rattle.std.proofs.lemmas.Result.{on_ok_weaker}
 use Rattle.ty_path.specs.Shared.{path_text}
 use Rattle.tinymist_vfs.specs.Items.{clean_text, clean_file}
-use Rattle.tinymist_session.specs.ChangeSets.{set_said}
+use Rattle.session_grammar.specs.Plain.{plain_changes}
 use Rattle.tinymist_plain.specs.Lists.{pairs, put_all, without_all}
 use Rattle.tinymist_plain.specs.Kept.{layers_of, stamped}
 use Rattle.tinymist_plain.proofs.Edits.{notified}
@@ -10,7 +10,7 @@ use Rattle.tinymist_plain.proofs.version.Version.notify.Goals as goal
 
 pub returns-clause-layers : goal.returns-clause-layers
 returns-clause-layers c = λ l is.
-    let changes = set_said c.args.changes.now in
+    let changes = plain_changes c.args.changes.now in
     let cleaned = c.in_ok-removes.ensures ∙ ap (map clean_text) c.deref.ensures.value in
     let left = c.remove_paths.ensures ∙ ap (without_all (pairs c.args.self.now.told.items)) (ap (map path_text) c.deref-2.ensures.value ∙ cleaned) in
     on_ok_weaker c.drop_paths.result (λ d.

@@ -1,49 +1,7 @@
-use Rattle.std.proofs.Common.{◌+◌, ◌-◌, ◌≤◌, ◌∙◌, ◌∷◌, [], ℕ, sym, ap, subst, arith}
-use Rattle.std.specs.Prelude.{slice_set}
-use Rattle.std.proofs.lemmas.Option.{slice_get_read}
-use Rattle.ty_model.specs.Held.{Kept}
-use Rattle.tinymist_vfs.specs.Commits.{committed}
-use Rattle.tinymist_vfs.specs.declared.ids.resolver.MockRootResolver.{MockRootResolver}
-use Rattle.tinymist_session.specs.Machine.{Stepped, edit_step}
-use Rattle.tinymist_session.specs.Reply.{AtRevision}
 use Rattle.tinymist_vfs.specs.Items.{clean_item}
-use Rattle.tinymist_session.specs.Shown.{IsShown, top_revision}
-use Rattle.tinymist_session.proofs.Edits.{live_shows, view_reply, view_shows, no_view, committed_rises, view_top, view_below}
+use Rattle.tinymist_session.proofs.Edits.{live_shows}
 use Rattle.tinymist_session.proofs.machine.Machine.edit_target.Goals as goal
 
-pub edit_space-requires-2 : goal.edit_space-requires-2
-edit_space-requires-2 c =
-    let at = slice_get_read c.args.self.now.views.items c.len.result (c.args.target - 1) c.index_mut.result.now (omega (arith, c.len.ensures)) c.if-k-len.false c.index_mut.ensures.value in
-    omega (arith, c.requires, view_below c.args.self.now.live c.args.self.now.views.items (c.args.target - 1) c.index_mut.result.now at)
-
-pub returns-clause-reply : goal.returns-clause-reply
-returns-clause-reply c = λ s is.
-    let at = slice_get_read c.args.self.now.views.items c.len.result (c.args.target - 1) c.index_mut.result.now (omega (arith, c.len.ensures)) c.if-k-len.false c.index_mut.ensures.value in
-    let done = c.in_ok-revision-2.ensures.ok in
-    ap AtRevision (done.1 ∙ ap (λ (k : Kept MockRootResolver). k.held.revision) done.0)
-    ∙ view_reply c.args.self.now.live c.args.self.now.views.items c.args.self.now.tags s is (clean_item c.args.item) c.args.target c.if-target-eq0.false c.index_mut.result.now at
-
-pub returns-clause-state : goal.returns-clause-state
-returns-clause-state c = λ s is.
-    let at = slice_get_read c.args.self.now.views.items c.len.result (c.args.target - 1) c.index_mut.result.now (omega (arith, c.len.ensures)) c.if-k-len.false c.index_mut.ensures.value in
-    subst (λ (k : Kept MockRootResolver). IsShown c.args.self.now.live (slice_set c.args.self.now.views.items (c.args.target - 1) k) c.args.self.now.tags (edit_step s c.args.target (clean_item c.args.item)).state) (sym c.in_ok-revision-2.ensures.ok.0)
-    (view_shows c.args.self.now.live c.args.self.now.views.items c.args.self.now.tags s is (clean_item c.args.item) c.args.target c.if-target-eq0.false c.index_mut.result.now at)
-
-pub returns-clause-revision : goal.returns-clause-revision
-returns-clause-revision c =
-    let at = slice_get_read c.args.self.now.views.items c.len.result (c.args.target - 1) c.index_mut.result.now (omega (arith, c.len.ensures)) c.if-k-len.false c.index_mut.ensures.value in
-    subst (λ (k : Kept MockRootResolver). top_revision c.args.self.now.live (slice_set c.args.self.now.views.items (c.args.target - 1) k) ≤ top_revision c.args.self.now.live c.args.self.now.views.items + 1) (sym c.in_ok-revision-2.ensures.ok.0)
-    (view_top c.args.self.now.live c.args.self.now.views.items (c.args.target - 1) c.index_mut.result.now _ at (committed_rises c.index_mut.result.now (clean_item c.args.item ∷ [])))
-
-pub returns-then-target-eq0-clause-state : goal.returns-then-target-eq0-clause-state
-returns-then-target-eq0-clause-state c = λ s is.
-    subst (λ (k : Kept MockRootResolver). IsShown k c.args.self.now.views.items c.args.self.now.tags (edit_step s c.args.target (clean_item c.args.item)).state) (sym c.in_ok-revision.ensures.ok.0)
-    (subst (λ (t : ℕ). IsShown (committed c.args.self.now.live (clean_item c.args.item ∷ [])) c.args.self.now.views.items c.args.self.now.tags (edit_step s t (clean_item c.args.item)).state) (sym c.if-target-eq0.true) (live_shows c.args.self.now.live c.args.self.now.views.items c.args.self.now.tags s is (clean_item c.args.item)))
-
-pub returns-then-k-len-clause-reply : goal.returns-then-k-len-clause-reply
-returns-then-k-len-clause-reply c = λ s is.
-    ap (λ (x : Stepped). x.reply) (sym (no_view c.args.self.now.live c.args.self.now.views.items c.args.self.now.tags s is (clean_item c.args.item) c.args.target c.if-target-eq0.false (omega (arith, c.len.ensures, c.if-k-len.true))))
-
-pub returns-then-k-len-clause-state : goal.returns-then-k-len-clause-state
-returns-then-k-len-clause-state c = λ s is.
-    subst (λ (x : Stepped). IsShown c.args.self.now.live c.args.self.now.views.items c.args.self.now.tags x.state) (sym (no_view c.args.self.now.live c.args.self.now.views.items c.args.self.now.tags s is (clean_item c.args.item) c.args.target c.if-target-eq0.false (omega (arith, c.len.ensures, c.if-k-len.true)))) is
+pub returns-in_ok-revision-in-Live-clause-state : goal.returns-in_ok-revision-in-Live-clause-state
+returns-in_ok-revision-in-Live-clause-state c = λ s is.
+    rw (c.in-Live.is, c.in_ok-revision-in-Live.ensures.ok.0) (live_shows c.args.self.now.live c.args.self.now.views.items c.args.self.now.tags s is (clean_item c.args.item))

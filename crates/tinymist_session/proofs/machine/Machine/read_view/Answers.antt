@@ -2,10 +2,10 @@ use Rattle.std.proofs.Common.{ap, sym, ◌∙◌, ℕ, Some, None}
 use Rattle.std.proofs.lemmas.Result.{IfOk-weaker}
 use Rattle.ty_model.specs.Version.{Version}
 use Rattle.tinymist_session.specs.Machine.{view_at}
-use Rattle.tinymist_session.specs.Said.{id_said}
+use Rattle.session_grammar.specs.Plain.{plain_id}
 use Rattle.tinymist_session.proofs.Showing.{view_found, view_missing, id_is, bad_view, bad_id, on_found}
 use Rattle.ty_model.specs.LookUp.{look}
-use Rattle.tinymist_session.specs.Reply.{reply_to}
+use Rattle.session_grammar.specs.Reply.{reply_to}
 use Rattle.tinymist_session.proofs.machine.Machine.read_view.Goals as goal
 
 pub returns-in_default-clause-reply : goal.returns-in_default-clause-reply
@@ -14,10 +14,10 @@ returns-in_default-clause-reply g c = λ told s is_told is. bad_view s _ _ (view
 pub returns-in_default-2-clause-reply : goal.returns-in_default-2-clause-reply
 returns-in_default-2-clause-reply g c = λ told s is_told is.
     bad_id s _ _ (view_at s.views c.args.view) c.in-Some.vfs.now (view_found c.args.self.now.live c.args.self.now.views.items c.args.self.now.tags s is c.args.view c.in-Some.vfs.now (sym c.in-Some.ensures))
-    (id_is c.args.self.now.live c.args.self.now.views.items c.args.self.now.tags s is (id_said c.args.word.now) c.in_ok-id.field-0 None c.in_ok-id.ensures c.in_default-2.is)
+    (id_is c.args.self.now.live c.args.self.now.views.items c.args.self.now.tags s is (plain_id c.args.word.now) c.in_ok-id.field-0 None c.in_ok-id.ensures c.in_default-2.is)
 
 pub returns-clause-reply : goal.returns-clause-reply
 returns-clause-reply g c = λ told s is_told is. IfOk-weaker c.read_of.result _ _ (λ r same. same ∙
     on_found s _ _ (view_at s.views c.args.view) c.in-Some.vfs.now c.in-Some-2.id _ (view_found c.args.self.now.live c.args.self.now.views.items c.args.self.now.tags s is c.args.view c.in-Some.vfs.now (sym c.in-Some.ensures))
-    (id_is c.args.self.now.live c.args.self.now.views.items c.args.self.now.tags s is (id_said c.args.word.now) c.in_ok-id.field-0 (Some c.in-Some-2.id) c.in_ok-id.ensures c.in-Some-2.is)
+    (id_is c.args.self.now.live c.args.self.now.views.items c.args.self.now.tags s is (plain_id c.args.word.now) c.in_ok-id.field-0 (Some c.in-Some-2.id) c.in_ok-id.ensures c.in-Some-2.is)
     (λ space shows. ap (λ (p : ℕ × Version). reply_to (look p.1 told c.in-Some-2.id)) shows.same)) (c.read_of.ensures.reply told is_told)

@@ -1,5 +1,5 @@
 use Rattle.std.proofs.Common.{ap, arith}
-use Rattle.tinymist_session.specs.Reply.{ViewNumber}
+use Rattle.session_grammar.specs.Reply.{ViewNumber}
 use Rattle.tinymist_session.proofs.Edits.{snapshot_top}
 use Rattle.tinymist_session.proofs.Showing.{snapshot_number, snapshot_is_shown}
 use Rattle.tinymist_session.proofs.machine.Machine.take_snapshot.Goals as goal

@@ -1,0 +1,5 @@
+pub mod Decimals
+pub mod Changing
+pub mod Tabs
+pub mod Pairs
+pub mod FieldCuts

@@ -1,0 +1,4 @@
+pub mod Command
+pub mod Grammar
+pub mod Reply
+pub mod Plain

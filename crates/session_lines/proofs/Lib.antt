@@ -1,0 +1,4 @@
+pub mod Pieces
+pub mod Lfs
+pub mod Known
+pub mod Bounds

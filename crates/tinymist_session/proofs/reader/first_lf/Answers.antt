@@ -1,8 +1,0 @@
-use Rattle.tinymist_session.proofs.Lfs.{first_some, first_none}
-use Rattle.tinymist_session.proofs.reader.first_lf.Goals as goal
-
-pub returns-clause-some : goal.returns-clause-some
-returns-clause-some c = first_some c.args.bytes.now c.memchr.result c.memchr.ensures
-
-pub returns-clause-none : goal.returns-clause-none
-returns-clause-none c = first_none c.args.bytes.now c.memchr.result c.memchr.ensures

@@ -1,4 +1,0 @@
-use Rattle.tinymist_session.proofs.space.snapshot_of.Given as goal
-
-abbrev pub ghosts-snapshot_counted : goal.ghosts-snapshot_counted
-ghosts-snapshot_counted a = record { name = a.blank.name; parts = a.blank.parts }
