@@ -1,7 +1,7 @@
 -- What is read of what is known.
 use Rattle.std.proofs.Math.Seq.{take-add}
 use Rattle.std.proofs.lemmas.List.{take_rest}
-use Rattle.std.proofs.Common.{◌≡◌, ◌⊎◌, ℕ, ◌+◌, ◌-◌, ◌<◌, ◌≤◌, List, [], ◌∷◌, ◌++◌, length, take, drop, refl, sym, ap, ◌∙◌, append_assoc, append-nil, arith, inl, inr, Option, Some, None, length-take}
+use Rattle.std.proofs.Common.{◌≡◌, ◌⊎◌, ℕ, ◌+◌, ◌-◌, ◌<◌, ◌≤◌, List, [], ◌∷◌, ◌++◌, length, take, drop, refl, sym, ap, ◌∙◌, append_assoc, append-nil, arith, inl, inr, Option, Some, None, Result, Ok, Err, length-take}
 use Rattle.std.proofs.lemmas.Bool.Decides.{leb_tells}
 use Rattle.std.proofs.lemmas.List.{drop-take, drop-drop}
 use Rattle.std.proofs.lemmas.List.Folds.{list_any-append}
@@ -12,7 +12,9 @@ use Rattle.session_lines.specs.LineReader.{ReadsLine, Fills, FindsByte}
 use Rattle.session_lines.specs.declared.line_reader.Filled.{Filled}
 use Rattle.session_lines.specs.declared.line_reader.Filled.TheVariants as filled
 use Rattle.session_lines.specs.declared.line_reader.LineRead.{LineRead}
-use Rattle.session_lines.specs.declared.line_reader.LineRead.TheVariants.{Line, TooLong}
+use Rattle.session_lines.specs.declared.line_reader.LineRead.TheVariants.{Line}
+use Rattle.session_lines.specs.declared.line_reader.LineFault.{LineFault}
+use Rattle.session_lines.specs.declared.line_reader.LineFault.TheVariants.{TooLong}
 
 pub prepend-prepend : (known : Option (List ℕ)) (xs ys : List ℕ) → prepend_known xs (prepend_known ys known) ≡ prepend_known (xs ++ ys) known
 prepend-prepend None xs ys = refl
@@ -45,7 +47,7 @@ both_lines xs ys p q = list_any-append (λ b. b == 10) xs ys ∙ rw (p, q) refl
 either_size : (a b : ℕ) → (a ≤ b) ⊎ (b < a)
 either_size a b = elim (leb_tells a b) [ inl p ↦ inl p.1 | inr p ↦ inr (omega (arith, p.1)) ]
 
-module _ (max : ℕ) (old mid new : Option (List ℕ)) (gathered tail line : List ℕ) (r : LineRead)
+module _ (max : ℕ) (old mid new : Option (List ℕ)) (gathered tail line : List ℕ) (r : Result LineRead LineFault)
     (before : old ≡ prepend_known gathered mid) (next : mid ≡ prepend_known (tail ++ 10 ∷ []) new)
     (plain : IsLine gathered) (plain_tail : IsLine tail) (is : line ≡ gathered ++ tail) where
   all : old ≡ prepend_known (line ++ 10 ∷ []) new
@@ -55,7 +57,7 @@ module _ (max : ℕ) (old mid new : Option (List ℕ)) (gathered tail line : Lis
   plain_all = rw is (both_lines gathered tail plain plain_tail)
 
   -- a line that is ended by LF is read, or is too long
-  pub whole-read : (length line ≤ max → r ≡ Line) → (max < length line → r ≡ TooLong) → ReadsLine max old new line r
+  pub whole-read : (length line ≤ max → r ≡ Ok Line) → (max < length line → r ≡ Err TooLong) → ReadsLine max old new line r
   whole-read fits long = elim (either_size (length line) max) [
     | inl short ↦ rw (fits short) (all, plain_all, short)
     | inr more ↦ rw (long more) (10 ∷ [], all, plain_all, more)

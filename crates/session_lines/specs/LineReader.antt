@@ -1,5 +1,5 @@
 -- A reader of lines: the bytes that it has received and not read yet, and the line that it read last.
-use Rattle.std.specs.Prelude.{◌≡◌, ℕ, ◌<◌, ◌≤◌, if◌then◌else◌, List, [], ◌∷◌, ◌++◌, length, slice_range, Option, ⊤}
+use Rattle.std.specs.Prelude.{◌≡◌, ℕ, ◌<◌, ◌≤◌, if◌then◌else◌, List, [], ◌∷◌, ◌++◌, length, slice_range, Option, Result, Ok, Err, ⊤}
 use Rattle.std.specs.Io.KnownBytes.{prepend_known, IsAtEnd}
 use Rattle.session_lines.specs.Lf.{IsLine}
 use Rattle.session_lines.specs.declared.line_reader.LineReader.{LineReader}
@@ -8,7 +8,9 @@ use Rattle.session_lines.specs.declared.line_reader.Filled.TheVariants as filled
 use Rattle.session_lines.specs.declared.line_reader.Part.{Part}
 use Rattle.session_lines.specs.declared.line_reader.Part.TheVariants as part
 use Rattle.session_lines.specs.declared.line_reader.LineRead.{LineRead}
-use Rattle.session_lines.specs.declared.line_reader.LineRead.TheVariants.{Line, Last, End, ReadFailed, FlushFailed, TooLong, OutOfMemory}
+use Rattle.session_lines.specs.declared.line_reader.LineRead.TheVariants.{Line, Last, End}
+use Rattle.session_lines.specs.declared.line_reader.LineFault.{LineFault}
+use Rattle.session_lines.specs.declared.line_reader.LineFault.TheVariants.{ReadFailed, FlushFailed, TooLong, OutOfMemory}
 
 -- received and not read yet
 abbrev pub held_of : LineReader → List ℕ
@@ -23,14 +25,14 @@ abbrev pub ahead : LineReader → Option (List ℕ) → Option (List ℕ)
 ahead r left = prepend_known (held_of r) left
 
 -- one line was read of what was to be read before; `line` is that line, or a prefix of it where it is too long
-abbrev pub ReadsLine : ℕ → Option (List ℕ) → Option (List ℕ) → List ℕ → LineRead → Type 0
-ReadsLine max old new line Line = (old ≡ prepend_known (line ++ 10 ∷ []) new) × IsLine line × (length line ≤ max)
-ReadsLine max old new line Last = (old ≡ prepend_known line new) × IsLine line × (length line ≤ max) × (0 < length line) × IsAtEnd new
-ReadsLine max old new line End = (old ≡ new) × IsAtEnd new
-ReadsLine max old new line TooLong = (more : List ℕ) × (old ≡ prepend_known (line ++ more) new) × IsLine line × (max < length line)
-ReadsLine max old new line ReadFailed = (old ≡ prepend_known line new) × IsLine line × (length line ≤ max)
-ReadsLine max old new line FlushFailed = ⊤
-ReadsLine max old new line OutOfMemory = ⊤
+abbrev pub ReadsLine : ℕ → Option (List ℕ) → Option (List ℕ) → List ℕ → Result LineRead LineFault → Type 0
+ReadsLine max old new line (Ok Line) = (old ≡ prepend_known (line ++ 10 ∷ []) new) × IsLine line × (length line ≤ max)
+ReadsLine max old new line (Ok Last) = (old ≡ prepend_known line new) × IsLine line × (length line ≤ max) × (0 < length line) × IsAtEnd new
+ReadsLine max old new line (Ok End) = (old ≡ new) × IsAtEnd new
+ReadsLine max old new line (Err TooLong) = (more : List ℕ) × (old ≡ prepend_known (line ++ more) new) × IsLine line × (max < length line)
+ReadsLine max old new line (Err ReadFailed) = (old ≡ prepend_known line new) × IsLine line × (length line ≤ max)
+ReadsLine max old new line (Err FlushFailed) = ⊤
+ReadsLine max old new line (Err OutOfMemory) = ⊤
 
 -- the piece was filled with the next bytes of the source
 abbrev pub Fills : Option (List ℕ) → Option (List ℕ) → List ℕ → Filled → Type 0
@@ -50,16 +52,14 @@ FindsByte old new filled.FlushFailed = ⊤
 abbrev pub TakesPart : LineReader → LineReader → Part → Type 0
 TakesPart old new part.Whole = (tail : List ℕ) × (held_of old ≡ tail ++ 10 ∷ held_of new) × IsLine tail × (line_of new ≡ old.gathered.items ++ tail)
 TakesPart old new part.More = (new.gathered.items ≡ old.gathered.items ++ held_of old) × (held_of new ≡ []) × IsLine (held_of old) × (new.is_gathered ≡ old.is_gathered)
-TakesPart old new part.OutOfMemory = ⊤
 TakesPart old new part.End = ⊥
-TakesPart old new part.ReadFailed = ⊥
-TakesPart old new part.FlushFailed = ⊥
 
 -- the same, of what is held and what the source has left
-abbrev pub GoesOn : LineReader → LineReader → Option (List ℕ) → Option (List ℕ) → Part → Type 0
-GoesOn old new left left' part.Whole = (tail : List ℕ) × (ahead old left ≡ prepend_known (tail ++ 10 ∷ []) (ahead new left')) × IsLine tail × (line_of new ≡ old.gathered.items ++ tail)
-GoesOn old new left left' part.More = (more : List ℕ) × (ahead old left ≡ prepend_known more (ahead new left')) × IsLine more × (0 < length more) × (length more ≤ 65536) × (held_of new ≡ []) × (new.gathered.items ≡ old.gathered.items ++ more) × (new.is_gathered ≡ old.is_gathered)
-GoesOn old new left left' part.End = (ahead old left ≡ ahead new left') × IsAtEnd (ahead new left') × (new.gathered.items ≡ old.gathered.items) × (new.is_gathered ≡ old.is_gathered)
-GoesOn old new left left' part.OutOfMemory = ⊤
-GoesOn old new left left' part.ReadFailed = (ahead old left ≡ left') × (held_of new ≡ []) × (new.gathered.items ≡ old.gathered.items) × (new.is_gathered ≡ old.is_gathered)
-GoesOn old new left left' part.FlushFailed = ⊤
+abbrev pub GoesOn : LineReader → LineReader → Option (List ℕ) → Option (List ℕ) → Result Part LineFault → Type 0
+GoesOn old new left left' (Ok part.Whole) = (tail : List ℕ) × (ahead old left ≡ prepend_known (tail ++ 10 ∷ []) (ahead new left')) × IsLine tail × (line_of new ≡ old.gathered.items ++ tail)
+GoesOn old new left left' (Ok part.More) = (more : List ℕ) × (ahead old left ≡ prepend_known more (ahead new left')) × IsLine more × (0 < length more) × (length more ≤ 65536) × (held_of new ≡ []) × (new.gathered.items ≡ old.gathered.items ++ more) × (new.is_gathered ≡ old.is_gathered)
+GoesOn old new left left' (Ok part.End) = (ahead old left ≡ ahead new left') × IsAtEnd (ahead new left') × (new.gathered.items ≡ old.gathered.items) × (new.is_gathered ≡ old.is_gathered)
+GoesOn old new left left' (Err OutOfMemory) = ⊤
+GoesOn old new left left' (Err ReadFailed) = (ahead old left ≡ left') × (held_of new ≡ []) × (new.gathered.items ≡ old.gathered.items) × (new.is_gathered ≡ old.is_gathered)
+GoesOn old new left left' (Err FlushFailed) = ⊤
+GoesOn old new left left' (Err TooLong) = ⊥

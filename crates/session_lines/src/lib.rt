@@ -7,7 +7,7 @@ mod sink;
 mod source;
 mod standard;
 
-pub use line_reader::{Filled, LineRead, LineReader};
+pub use line_reader::{Filled, LineFault, LineRead, LineReader};
 pub use memory::{MemorySink, MemorySource};
 pub use sink::{ByteSink, FlushStep, WriteStep, write_all};
 pub use source::{LineSource, ReadStep};

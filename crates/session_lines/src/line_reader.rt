@@ -1,5 +1,5 @@
 //! Lines of a source, which is read a piece at a time.
-ghost use Rattle.std.specs.Prelude.{◌≡◌, ◌⊎◌, ℕ, List, Some, ◌+◌, ◌-◌, ◌<◌, ◌≤◌, ◌++◌, ◌∷◌, [], IfOk, OnOk, IfSome, IfNone, length, take, drop, slice_range, true, IsTrue};
+ghost use Rattle.std.specs.Prelude.{◌≡◌, ◌⊎◌, ℕ, List, Some, Ok, Err, IsErrOf, ◌+◌, ◌-◌, ◌<◌, ◌≤◌, ◌++◌, ◌∷◌, [], IfOk, OnOk, IfSome, IfNone, length, take, drop, slice_range, true, IsTrue};
 ghost use Rattle.session_lines.specs.LineSource.{HasCause};
 ghost use Rattle.session_lines.specs.Lf.{IsLine};
 ghost use Rattle.session_lines.specs.LineSource.{TakenWithin};
@@ -9,25 +9,46 @@ use crate::source::{LineSource, ReadStep};
 use crate::standard::PIECE;
 use memchr::memchr;
 use std::alloc::Global;
+use thiserror::Error;
 use ty_path::OutOfMemory;
 
-/// What reading one line gave.
+/// What was read as a line.
 #[derive(Clone, Copy, Debug, PartialEq, Eq)]
 pub enum LineRead {
     /// A line that was ended by LF.
     Line,
     /// The rest of the input, which has a byte and no LF.
     Last,
-    /// The end of the input.
+    /// Nothing: the input is at its end.
     End,
+}
+
+/// Why no line was read.
+#[derive(Clone, Copy, Debug, PartialEq, Eq, Error)]
+pub enum LineFault {
     /// The source failed.
+    #[error("read fault")]
     ReadFailed,
     /// The sink failed to flush what was written before the read.
+    #[error("flush fault")]
     FlushFailed,
-    /// More bytes than the limit before an LF.
+    /// There are more bytes than the limit before an LF.
+    #[error("line too long")]
     TooLong,
     /// No memory was left.
+    #[error("out of memory")]
     OutOfMemory,
+}
+
+impl From<OutOfMemory> for LineFault {
+    ghost use Rattle.std.specs.Prelude.{◌≡◌};
+    ghost use Rattle.session_lines.specs.declared.line_reader.LineFault.TheVariants.{OutOfMemory as no_memory};
+
+    ghost from_gives = { λ _ fault. fault ≡ no_memory };
+
+    fn from(_: OutOfMemory) -> Self {
+        LineFault::OutOfMemory
+    }
 }
 
 /// What the next part of a line is.
@@ -39,9 +60,6 @@ enum Part {
     Whole,
     /// The end of the input.
     End,
-    ReadFailed,
-    FlushFailed,
-    OutOfMemory,
 }
 
 /// What filling the piece gave.
@@ -111,48 +129,49 @@ impl LineReader {
         source: &mut S,
         sink: &mut W,
         max_line: u32,
-    ) -> LineRead
+    ) -> Result<LineRead, LineFault>
         ensures bytes { ReadsLine max_line (ahead self.old (S.seen source.old).left) (ahead self.new (S.seen source.new).left) (line_of self.new) result }
-        ensures empty { result ≡ LineRead.ReadFailed → held_of self.new ≡ [] }
+        ensures empty { IsErrOf result LineFault.ReadFailed → held_of self.new ≡ [] }
         ensures bounded { (rest : List ℕ) → ahead self.old (S.seen source.old).left ≡ Some rest → TakenWithin (max_line + 65536) rest (S.seen source.new).left }
-        ensures read_cause { HasCause (result ≡ LineRead.ReadFailed) (S.seen source.old).faults (S.seen source.new).faults }
+        ensures read_cause { HasCause (IsErrOf result LineFault.ReadFailed) (S.seen source.old).faults (S.seen source.new).faults }
         ensures taken { (W.seen sink.new).taken ≡ (W.seen sink.old).taken }
-        ensures flush_cause { HasCause (result ≡ LineRead.FlushFailed) (W.seen sink.old).faults (W.seen sink.new).faults }
+        ensures flush_cause { HasCause (IsErrOf result LineFault.FlushFailed) (W.seen sink.old).faults (W.seen sink.new).faults }
         ensures dry { (W.seen sink.old).dry ≤ (W.seen sink.new).dry }
-        ensures flushed { result ≡ LineRead.ReadFailed → IsTrue (W.seen sink.new).flushed }
+        ensures flushed { IsErrOf result LineFault.ReadFailed → IsTrue (W.seen sink.new).flushed }
     {
         self.begin();
         while self.gathered.len() <= max_line as usize {
-            match self.next_part(source, sink) {
+            match self.next_part(source, sink)? {
                 Part::More => {}
                 Part::Whole => return self.whole(max_line),
-                Part::End => return self.last(),
-                Part::ReadFailed => return LineRead::ReadFailed,
-                Part::FlushFailed => return LineRead::FlushFailed,
-                Part::OutOfMemory => return LineRead::OutOfMemory,
+                Part::End => return Ok(self.last()),
             }
         }
-        LineRead::TooLong
+        Err(LineFault::TooLong)
     }
 
     /// The next part of the line: from what is held, else from the source.
-    fn next_part<S: LineSource, W: ByteSink>(&mut self, source: &mut S, sink: &mut W) -> Part
+    fn next_part<S: LineSource, W: ByteSink>(
+        &mut self,
+        source: &mut S,
+        sink: &mut W,
+    ) -> Result<Part, LineFault>
         ensures bytes { GoesOn self.old self.new (S.seen source.old).left (S.seen source.new).left result }
         ensures bounded { (rest : List ℕ) → (S.seen source.old).left ≡ Some rest → TakenWithin (65536 - length (held_of self.old)) rest (S.seen source.new).left }
-        ensures read_cause { HasCause (result ≡ Part.ReadFailed) (S.seen source.old).faults (S.seen source.new).faults }
+        ensures read_cause { HasCause (IsErrOf result LineFault.ReadFailed) (S.seen source.old).faults (S.seen source.new).faults }
         ensures taken { (W.seen sink.new).taken ≡ (W.seen sink.old).taken }
-        ensures flush_cause { HasCause (result ≡ Part.FlushFailed) (W.seen sink.old).faults (W.seen sink.new).faults }
+        ensures flush_cause { HasCause (IsErrOf result LineFault.FlushFailed) (W.seen sink.old).faults (W.seen sink.new).faults }
         ensures dry { (W.seen sink.old).dry ≤ (W.seen sink.new).dry }
-        ensures flushed { result ≡ Part.ReadFailed → IsTrue (W.seen sink.new).flushed }
+        ensures flushed { IsErrOf result LineFault.ReadFailed → IsTrue (W.seen sink.new).flushed }
     {
         if self.from < self.to {
-            return self.take_part();
+            return Ok(self.take_part()?);
         }
         match self.fill(source, sink) {
-            Filled::Some => self.take_part(),
-            Filled::End => Part::End,
-            Filled::ReadFailed => Part::ReadFailed,
-            Filled::FlushFailed => Part::FlushFailed,
+            Filled::Some => Ok(self.take_part()?),
+            Filled::End => Ok(Part::End),
+            Filled::ReadFailed => Err(LineFault::ReadFailed),
+            Filled::FlushFailed => Err(LineFault::FlushFailed),
         }
     }
 
@@ -211,18 +230,18 @@ impl LineReader {
     }
 
     /// Takes what is held up to its first LF, or all of it.
-    fn take_part(&mut self) -> Part
-        ensures { TakesPart self.old self.new result }
+    fn take_part(&mut self) -> Result<Part, OutOfMemory>
+        ensures { IfOk result (TakesPart self.old self.new) }
     {
         match first_lf(&self.piece[self.from..self.to]) {
-            Some(n) => match self.end_line(n) {
-                Ok(()) => Part::Whole,
-                Err(OutOfMemory) => Part::OutOfMemory,
-            },
-            None => match self.gather() {
-                Ok(()) => Part::More,
-                Err(OutOfMemory) => Part::OutOfMemory,
-            },
+            Some(n) => {
+                self.end_line(n)?;
+                Ok(Part::Whole)
+            }
+            None => {
+                self.gather()?;
+                Ok(Part::More)
+            }
         }
     }
 
@@ -268,15 +287,15 @@ impl LineReader {
         Ok(())
     }
 
-    /// A line that was ended by LF.
-    fn whole(&self, max_line: u32) -> LineRead
-        ensures fits { length (line_of self.now) ≤ max_line → result ≡ LineRead.Line }
-        ensures long { max_line < length (line_of self.now) → result ≡ LineRead.TooLong }
+    /// A line that was ended by LF, where it isn't too long.
+    fn whole(&self, max_line: u32) -> Result<LineRead, LineFault>
+        ensures fits { length (line_of self.now) ≤ max_line → result ≡ Ok LineRead.Line }
+        ensures long { max_line < length (line_of self.now) → result ≡ Err LineFault.TooLong }
     {
         if self.line().len() <= max_line as usize {
-            LineRead::Line
+            Ok(LineRead::Line)
         } else {
-            LineRead::TooLong
+            Err(LineFault::TooLong)
         }
     }
 

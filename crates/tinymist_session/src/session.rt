@@ -19,7 +19,9 @@ ghost use Rattle.tinymist_session.specs.Arguments.{plain_limits};
 use crate::machine::Machine;
 use crate::program::arguments::Limits;
 use session_grammar::{put_line, read_command};
-use session_lines::{ByteSink, Filled, FlushStep, LineRead, LineReader, LineSource, write_all};
+use session_lines::{
+    ByteSink, Filled, FlushStep, LineFault, LineRead, LineReader, LineSource, write_all,
+};
 use std::alloc::{AllocError, Global};
 use thiserror::Error;
 use ty_cells::PathAccessModel;
@@ -153,19 +155,19 @@ impl Session {
     {
         let number = u64::from(n) + 1;
         match self.reader.read_line(source, sink, limits.max_line) {
-            LineRead::Line => match self.turn(sink, disk, number) {
+            Ok(LineRead::Line) => match self.turn(sink, disk, number) {
                 Ok(()) => Ok(true),
                 Err(fault) => Err(fault),
             },
-            LineRead::Last => match self.turn(sink, disk, number) {
+            Ok(LineRead::Last) => match self.turn(sink, disk, number) {
                 Ok(()) => Ok(false),
                 Err(fault) => Err(fault),
             },
-            LineRead::End => Ok(false),
-            LineRead::ReadFailed => Err(SessionFault::ReadFault),
-            LineRead::FlushFailed => Err(SessionFault::WriteFault),
-            LineRead::TooLong => Err(SessionFault::BadLine(number)),
-            LineRead::OutOfMemory => Err(SessionFault::OutOfMemory),
+            Ok(LineRead::End) => Ok(false),
+            Err(LineFault::ReadFailed) => Err(SessionFault::ReadFault),
+            Err(LineFault::FlushFailed) => Err(SessionFault::WriteFault),
+            Err(LineFault::TooLong) => Err(SessionFault::BadLine(number)),
+            Err(LineFault::OutOfMemory) => Err(SessionFault::OutOfMemory),
         }
     }
 

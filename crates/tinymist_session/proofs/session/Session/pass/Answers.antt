@@ -20,7 +20,7 @@ returns-in-Ok-clause-ends g c = λ rest is_left.
     let r = c.read_line.new.self in
     let left = (g.S.LineSource.seen c.read_line.new.source).left in
     let line = line_of r in
-    let b = c.in-Line.ensures.bytes in
+    let b = rw c.in-Ok-Line.field-0-is at c.in-Ok-Line.ensures.bytes in
     let whole = whole_line _ (ahead r left) line rest b.0 b.1 is_left in
     let cmd = some_command (command_of line) c.in-Ok.ensures.reads in (
       whole.next,
@@ -34,7 +34,7 @@ returns-in-Ok-clause-says g c = λ rest told s is_left is shown.
     let r = c.read_line.new.self in
     let left = (g.S.LineSource.seen c.read_line.new.source).left in
     let line = line_of r in
-    let b = c.in-Line.ensures.bytes in
+    let b = rw c.in-Ok-Line.field-0-is at c.in-Ok-Line.ensures.bytes in
     let whole = whole_line _ (ahead r left) line rest b.0 b.1 is_left in
     let cmd = some_command (command_of line) c.in-Ok.ensures.reads in
     let says = c.in-Ok.ensures.says told s cmd.0 is shown cmd.1 in
@@ -56,7 +56,7 @@ returns-in-Err-clause-ends g c = λ rest is_left.
     let r = c.read_line.new.self in
     let left = (g.S.LineSource.seen c.read_line.new.source).left in
     let line = line_of r in
-    let b = c.in-Line.ensures.bytes in
+    let b = rw c.in-Ok-Line.field-0-is at c.in-Ok-Line.ensures.bytes in
     let whole = whole_line _ (ahead r left) line rest b.0 b.1 is_left in
     ends_err (plain_limits c.args.limits) c.args.n line rest (lines_of whole.next) c.requires.room b.2 whole.first (c.from-number.result + 1) (ap (λ (m : ℕ). m + 1) c.from-number.ensures) c.in-Err.fault c.in-Err.ensures.reads
 
@@ -65,7 +65,7 @@ returns-in-Err-clause-says g c = λ rest told s is_left is shown.
     let r = c.read_line.new.self in
     let left = (g.S.LineSource.seen c.read_line.new.source).left in
     let line = line_of r in
-    let b = c.in-Line.ensures.bytes in
+    let b = rw c.in-Ok-Line.field-0-is at c.in-Ok-Line.ensures.bytes in
     let whole = whole_line _ (ahead r left) line rest b.0 b.1 is_left in
     subst (λ k. Written (replies (plain_limits c.args.limits) told s c.args.n rest) k (g.W.ByteSink.seen c.turn.new.sink).taken (Err c.in-Err.fault)) c.read_line.ensures.taken (written_err (plain_limits c.args.limits) c.args.n line rest (lines_of whole.next) c.requires.room b.2 whole.first told s (g.W.ByteSink.seen c.read_line.new.sink).taken (g.W.ByteSink.seen c.turn.new.sink).taken
     (λ e. c.in-Err.ensures.quiet e)
@@ -77,7 +77,7 @@ returns-in-Ok-turn-clause-ends g c = λ rest is_left.
     let r = c.read_line.new.self in
     let left = (g.S.LineSource.seen c.read_line.new.source).left in
     let line = line_of r in
-    let b = c.in-Last.ensures.bytes in
+    let b = rw c.in-Ok-Last.field-0-is at c.in-Ok-Last.ensures.bytes in
     let first = only_line _ (ahead r left) line rest b.0 b.1 b.3 b.4 is_left in
     let cmd = some_command (command_of line) c.in-Ok-turn.ensures.reads in
     ends_ok (plain_limits c.args.limits) c.args.n line rest [] c.requires.room b.2 first cmd.0 cmd.1 ∙ end_nothing (plain_limits c.args.limits) (c.args.n + 1)
@@ -87,7 +87,7 @@ returns-in-Ok-turn-clause-says g c = λ rest told s is_left is shown.
     let r = c.read_line.new.self in
     let left = (g.S.LineSource.seen c.read_line.new.source).left in
     let line = line_of r in
-    let b = c.in-Last.ensures.bytes in
+    let b = rw c.in-Ok-Last.field-0-is at c.in-Ok-Last.ensures.bytes in
     let first = only_line _ (ahead r left) line rest b.0 b.1 b.3 b.4 is_left in
     let cmd = some_command (command_of line) c.in-Ok-turn.ensures.reads in
     let says = c.in-Ok-turn.ensures.says told s cmd.0 is shown cmd.1 in
@@ -99,7 +99,7 @@ returns-in-Err-turn-clause-ends g c = λ rest is_left.
     let r = c.read_line.new.self in
     let left = (g.S.LineSource.seen c.read_line.new.source).left in
     let line = line_of r in
-    let b = c.in-Last.ensures.bytes in
+    let b = rw c.in-Ok-Last.field-0-is at c.in-Ok-Last.ensures.bytes in
     let first = only_line _ (ahead r left) line rest b.0 b.1 b.3 b.4 is_left in
     ends_err (plain_limits c.args.limits) c.args.n line rest [] c.requires.room b.2 first (c.from-number.result + 1) (ap (λ (m : ℕ). m + 1) c.from-number.ensures) c.in-Err-turn.fault c.in-Err-turn.ensures.reads
 
@@ -108,41 +108,41 @@ returns-in-Err-turn-clause-says g c = λ rest told s is_left is shown.
     let r = c.read_line.new.self in
     let left = (g.S.LineSource.seen c.read_line.new.source).left in
     let line = line_of r in
-    let b = c.in-Last.ensures.bytes in
+    let b = rw c.in-Ok-Last.field-0-is at c.in-Ok-Last.ensures.bytes in
     let first = only_line _ (ahead r left) line rest b.0 b.1 b.3 b.4 is_left in
-    subst (λ k. Written (replies (plain_limits c.args.limits) told s c.args.n rest) k (g.W.ByteSink.seen c.turn-in-Last.new.sink).taken (Err c.in-Err-turn.fault)) c.read_line.ensures.taken (written_err (plain_limits c.args.limits) c.args.n line rest [] c.requires.room b.2 first told s (g.W.ByteSink.seen c.read_line.new.sink).taken (g.W.ByteSink.seen c.turn-in-Last.new.sink).taken
+    subst (λ k. Written (replies (plain_limits c.args.limits) told s c.args.n rest) k (g.W.ByteSink.seen c.turn-in-Ok-Last.new.sink).taken (Err c.in-Err-turn.fault)) c.read_line.ensures.taken (written_err (plain_limits c.args.limits) c.args.n line rest [] c.requires.room b.2 first told s (g.W.ByteSink.seen c.read_line.new.sink).taken (g.W.ByteSink.seen c.turn-in-Ok-Last.new.sink).taken
     (λ e. c.in-Err-turn.ensures.quiet e)
     (λ command e. c.in-Err-turn.ensures.says told s command is shown e)
     (c.from-number.result + 1) c.in-Err-turn.fault c.in-Err-turn.ensures.reads)
 
-pub returns-in-TooLong-clause-ends : goal.returns-in-TooLong-clause-ends
-returns-in-TooLong-clause-ends g c = λ rest is_left.
+pub returns-in-Err-TooLong-clause-ends : goal.returns-in-Err-TooLong-clause-ends
+returns-in-Err-TooLong-clause-ends g c = λ rest is_left.
     let r = c.read_line.new.self in
     let left = (g.S.LineSource.seen c.read_line.new.source).left in
     let before = ahead c.args.self.now.reader (g.S.LineSource.seen c.args.source.now).left in
     let line = line_of r in
-    let b = c.in-TooLong.ensures.bytes in
+    let b = rw c.in-Err-TooLong.field-0-is at c.in-Err-TooLong.ensures.bytes in
     let known = known_left before (ahead r left) (line ++ b.0) rest b.1 is_left in
     rw c.from-number.ensures (long_ends (plain_limits c.args.limits) c.args.n line (b.0 ++ known.0) rest c.requires.room b.3 b.2 (long_read line b.0 known.0 rest known.2))
 
-pub returns-in-TooLong-clause-says : goal.returns-in-TooLong-clause-says
-returns-in-TooLong-clause-says g c = λ rest told s is_left is shown.
+pub returns-in-Err-TooLong-clause-says : goal.returns-in-Err-TooLong-clause-says
+returns-in-Err-TooLong-clause-says g c = λ rest told s is_left is shown.
     let r = c.read_line.new.self in
     let left = (g.S.LineSource.seen c.read_line.new.source).left in
     let before = ahead c.args.self.now.reader (g.S.LineSource.seen c.args.source.now).left in
     let line = line_of r in
-    let b = c.in-TooLong.ensures.bytes in
+    let b = rw c.in-Err-TooLong.field-0-is at c.in-Err-TooLong.ensures.bytes in
     let known = known_left before (ahead r left) (line ++ b.0) rest b.1 is_left in
     c.read_line.ensures.taken ∙ nothing_more (g.W.ByteSink.seen c.args.sink.now).taken _ (long_replies (plain_limits c.args.limits) c.args.n line (b.0 ++ known.0) rest c.requires.room b.3 b.2 (long_read line b.0 known.0 rest known.2) told s)
 
-pub returns-in-End-clause-ends : goal.returns-in-End-clause-ends
-returns-in-End-clause-ends g c = λ rest is_left.
-    let b = c.in-End.ensures.bytes in
+pub returns-in-Ok-End-clause-ends : goal.returns-in-Ok-End-clause-ends
+returns-in-Ok-End-clause-ends g c = λ rest is_left.
+    let b = rw c.in-Ok-End.field-0-is at c.in-Ok-End.ensures.bytes in
     let none = at_end _ rest (sym b.0 ∙ is_left) b.1 in
     ap (ends (plain_limits c.args.limits) c.args.n) none ∙ end_nothing (plain_limits c.args.limits) c.args.n
 
-pub returns-in-End-clause-says : goal.returns-in-End-clause-says
-returns-in-End-clause-says g c = λ rest told s is_left is shown.
-    let b = c.in-End.ensures.bytes in
+pub returns-in-Ok-End-clause-says : goal.returns-in-Ok-End-clause-says
+returns-in-Ok-End-clause-says g c = λ rest told s is_left is shown.
+    let b = rw c.in-Ok-End.field-0-is at c.in-Ok-End.ensures.bytes in
     let none = at_end _ rest (sym b.0 ∙ is_left) b.1 in
     c.read_line.ensures.taken ∙ nothing_more (g.W.ByteSink.seen c.args.sink.now).taken _ (ap (replies (plain_limits c.args.limits) told s c.args.n) none ∙ ap (replies_from told s) (commands_nothing (plain_limits c.args.limits) c.args.n))
