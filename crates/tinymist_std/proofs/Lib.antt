@@ -5,3 +5,4 @@ mod HalfTexts
 mod FingerprintTexts
 mod TemporaryNames
 mod PaddedNumbers
+mod Reading
