@@ -1,11 +1,12 @@
 -- Failures of calls on files, and paths as one text.
-use Rattle.std.specs.Prelude.{◌≡◌, ◌≢◌, ℕ, ◌==◌, Bool, IsTrue, List, [], ◌∷◌, Option, Some, None, IfSome, IsSomeAnd, Result, Ok, Err, codes, string_bytes}
+use Rattle.std.specs.Prelude.{◌≡◌, ◌≢◌, ◌⊎◌, ℕ, ◌==◌, Bool, IsTrue, List, [], ◌∷◌, ◌++◌, Option, Some, None, IfSome, IsSomeAnd, Result, Ok, Err, codes, decimal, string_bytes}
 use Rattle.std.specs.IoError.{error_kind}
 use Rattle.std.specs.declared.io.Error.{Error as IoError}
 use Rattle.std.specs.declared.io.ErrorKind.TheVariants.{NotFound}
 use Rattle.std.specs.declared.string.String.{String}
 use Rattle.std.specs.declared.alloc.Global.{Global}
 use Rattle.std.specs.List.{join_by, list_any}
+use Rattle.std.specs.Path.{path_file_name, path_parent}
 use Rattle.ty_model.specs.Paths.{is_name, join}
 use Rattle.tinymist_std.specs.Error.{Arguments, Failure, plain, untold}
 use Rattle.tinymist_std.specs.Context.{HasArguments, UnlessMemory}
@@ -76,6 +77,15 @@ separator_arguments env = (codes "env", env) ∷ (codes "error", codes "path seg
 -- a path is that of a name of one component in a folder
 abbrev pub StandsIn : List ℕ → List ℕ → Type 0
 StandsIn folder path = (name : List ℕ) × IsTrue (is_name name) × (path ≡ join folder name)
+
+-- the path has no parent or no name
+abbrev pub IsNameless : List ℕ → Type 0
+IsNameless path = (path_parent path ≡ None) ⊎ (path_file_name path ≡ None)
+
+-- the name of a temporary: its number, a part that other runs don't share, and the name that it carries
+abbrev pub temporary_name : ℕ → ℕ → List ℕ → List ℕ
+temporary_name number unique carried =
+    codes ".tmp" ++ (decimal number ++ (codes "-" ++ (decimal unique ++ (codes "-" ++ carried))))
 
 -- a folder as the system reads it: an empty path is the folder in which the program runs
 abbrev pub readable_folder : List ℕ → List ℕ

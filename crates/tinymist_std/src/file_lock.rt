@@ -1,9 +1,9 @@
 //! Files that are open and locked.
-ghost use Rattle.std.specs.Prelude.{◌≡◌, ◌⊎◌, ℕ, List, None, Some, IfErr, IfSome, codes, string_bytes};
+ghost use Rattle.std.specs.Prelude.{◌≡◌, ℕ, List, None, Some, IfErr, IfSome, IsErrAnd, codes, string_bytes};
 ghost use Rattle.std.specs.Option.{option_copied};
 ghost use Rattle.std.specs.Path.{path_file_name, path_parent};
 ghost use Rattle.tinymist_std.specs.FileLock.{lock_file, lock_path};
-ghost use Rattle.tinymist_std.specs.Paths.{IsEntryFault};
+ghost use Rattle.tinymist_std.specs.Paths.{IsEntryFault, IsNameless};
 
 use crate::error::Result;
 use crate::paths::{entry_fault, folder_of, readable};
@@ -51,11 +51,13 @@ impl FileLock {
     }
 
     /// Removes all that the file's folder holds beside it. Where the path has no parent or no name,
-    /// this is refused, and nothing is removed. The error names the entry that failed, or the folder
-    /// where it can't be read.
+    /// this is refused with an error that names the path, and nothing is removed. Another error names
+    /// the entry that failed, or the folder where it can't be read.
     pub fn remove_siblings<R: Files>(&self, rt: &R) -> Result<()>
-        ensures { IfErr result (λ error. (entry : List ℕ)
+        ensures err { IfErr result (λ error. (entry : List ℕ)
             × IsEntryFault (codes "remove_siblings") (lock_path self.now) entry error) }
+        ensures nameless { let path = lock_path self.now in
+            IsNameless path → IsErrAnd result (IsEntryFault (codes "remove_siblings") path path) }
     {
         let path = self.path.as_str();
         remove_beside(rt, *self.path.allocator(), "remove_siblings", path)
@@ -72,7 +74,9 @@ impl Drop for FileLock {
 
 /// Removes all that the folder of the path holds beside its name, where it has both.
 fn remove_beside<R: Files>(rt: &R, alloc: Global, call: &'static str, path: &str) -> Result<()>
-    ensures { IfErr result (λ error. (entry : List ℕ) × IsEntryFault call.now path.now entry error) }
+    ensures err { IfErr result (λ error. (entry : List ℕ) × IsEntryFault call.now path.now entry error) }
+    ensures nameless { IsNameless path.now
+        → IsErrAnd result (IsEntryFault call.now path.now path.now) }
 {
     let Some((folder, name)) = folder_and_name(path) else {
         let refused = io::Error::from(ErrorKind::InvalidInput);
@@ -103,8 +107,7 @@ fn remove_beside<R: Files>(rt: &R, alloc: Global, call: &'static str, path: &str
 fn folder_and_name(path: &str) -> Option<(&str, &str)>
     ensures some { IfSome result (λ parts. (path_parent path.now ≡ Some parts.0.now)
         × (path_file_name path.now ≡ Some parts.1.now)) }
-    ensures none { result ≡ None
-        → (path_parent path.now ≡ None) ⊎ (path_file_name path.now ≡ None) }
+    ensures none { result ≡ None → IsNameless path.now }
 {
     Some((folder_of(path)?, Path::new(path).file_name()?))
 }

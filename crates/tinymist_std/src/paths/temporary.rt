@@ -1,8 +1,10 @@
 //! Paths of temporary files and folders: a number, a random part and the name that they are for.
-ghost use Rattle.std.specs.Prelude.{◌≡◌, ◌≤◌, ◌<◌, ℕ, List, [], false, Ok, IfOk, IsTrue, length, string_bytes, unwrap_or};
+ghost use Rattle.std.specs.Prelude.{◌≡◌, ◌≤◌, ◌<◌, ◌⊎◌, ◌↔◌, ℕ, List, [], true, false, Ok, Err, IfOk, IfErr, IsTrue, length, string_bytes, unwrap_or};
 ghost use Rattle.std.specs.Borrow.{Bor};
+ghost use Rattle.std.specs.IoError.{error_kind};
 ghost use Rattle.std.specs.Path.{path_file_name};
-ghost use Rattle.tinymist_std.specs.Paths.{StandsIn, has_slash};
+ghost use Rattle.tinymist_std.specs.Paths.{StandsIn, has_slash, temporary_name};
+ghost use Rattle.ty_model.specs.Paths as plain;
 ghost use Rattle.ty_model.specs.Paths.{is_name};
 
 use std::alloc::{AllocError, Global};
@@ -55,16 +57,26 @@ pub(super) fn first_free<T, F: Fn(&str) -> io::Result<T> + Drop>(
     ensures place { IfOk result (λ made. StandsIn place.entry.folder.now (string_bytes made.0)) }
     ensures made { IfOk result (λ made. (path : Bor (List ℕ))
         × (path.now ≡ string_bytes made.0) × F.post make path (Ok made.1)) }
+    ensures err { IfErr result (λ cause. (error_kind cause ≡ ErrorKind.AlreadyExists)
+        ⊎ ((error_kind cause ≡ ErrorKind.OutOfMemory)
+        ⊎ ((path : Bor (List ℕ)) × F.post make path (Err cause)))) }
 {
     for number in 0..u32::MAX {
         let path = numbered_in(alloc, place, number)?;
         match make(path.as_str()) {
             Ok(made) => return Ok((path, made)),
-            Err(cause) if cause.kind() == ErrorKind::AlreadyExists => {}
+            Err(cause) if is_occupied(&cause) => {}
             Err(cause) => return Err(cause),
         }
     }
     Err(io::Error::from(ErrorKind::AlreadyExists))
+}
+
+/// Whether nothing was made at a path for the cause that something stands there.
+fn is_occupied(cause: &io::Error) -> bool
+    ensures { IsTrue result ↔ (error_kind cause.now ≡ ErrorKind.AlreadyExists) }
+{
+    cause.kind() == ErrorKind::AlreadyExists
 }
 
 /// A number that other runs don't share, from the system's random bytes; 0 where there are none.
@@ -81,7 +93,9 @@ fn random_bytes<R: Files>(rt: &R) -> io::Result<[u8; 8]> {
 
 /// The numbered path in the folder.
 fn numbered_in(alloc: Global, place: Place, number: u32) -> Result<String, AllocError>
-    ensures { IfOk result (λ path. StandsIn place.entry.folder.now (string_bytes path)) }
+    ensures place { IfOk result (λ path. StandsIn place.entry.folder.now (string_bytes path)) }
+    ensures name { IfOk result (λ path. (carried : List ℕ) × (string_bytes path
+        ≡ plain.join place.entry.folder.now (temporary_name number place.entry.unique carried))) }
 {
     let name = numbered(alloc, carried(place.target), place.unique, number)?;
     match join(alloc, place.folder, name.as_str()) {
@@ -94,7 +108,8 @@ fn numbered_in(alloc: Global, place: Place, number: u32) -> Result<String, Alloc
 #[tactic(auto, using(crate::proofs::TemporaryNames::temporary_name))]
 fn numbered(alloc: Global, carried: &str, unique: u64, number: u32) -> Result<String, AllocError>
     requires { has_slash carried.now ≡ false }
-    ensures { IfOk result (λ name. IsTrue (is_name (string_bytes name))) }
+    ensures text { IfOk result (λ name. string_bytes name ≡ temporary_name number unique carried.now) }
+    ensures name { IfOk result (λ name. IsTrue (is_name (string_bytes name))) }
 {
     format!(in alloc; ".tmp{number}-{unique}-{carried}")
 }

@@ -1,14 +1,16 @@
 //! Files that are made and written.
-ghost use Rattle.std.specs.Prelude.{◌≡◌, ◌≢◌, ◌↔◌, Some, true, IfErr, IsTrue, bit_and, codes};
+ghost use Rattle.std.specs.Prelude.{◌≡◌, ◌≢◌, ◌↔◌, Some, true, IfOk, IfErr, IsSomeAnd, IsTrue, bit_and, codes, string_bytes};
 ghost use Rattle.std.specs.Option.{option_map};
-ghost use Rattle.std.specs.Fs.{new_options, permissions_mode, with_append, with_create};
-ghost use Rattle.tinymist_std.specs.Paths.{IsCopyFault, IsFileFault, IsPresent};
+ghost use Rattle.std.specs.Result.{result_ok};
+ghost use Rattle.std.specs.Fs.{metadata_mode, new_options, permissions_mode, with_append, with_create};
+ghost use Rattle.std.specs.Path.{path_parent};
+ghost use Rattle.tinymist_std.specs.Paths.{IsCopyFault, IsFileFault, IsPresent, StandsIn};
 
 use crate::error::Result;
 use crate::paths::temporary::{Place, first_free, random_part};
 use crate::paths::{copied, folder_of, named};
 use std::alloc::Global;
-use std::fs::{File, OpenFile, OpenOptions, Permissions};
+use std::fs::{File, Metadata, OpenFile, OpenOptions, Permissions};
 use std::io::{ErrorKind, Write};
 use std::os::unix::fs::PermissionsExt;
 use std::rt::Files;
@@ -138,23 +140,31 @@ fn fill<R: Files>(
     path: &str,
     contents: &[u8],
 ) -> io::Result<()> {
-    if let Ok(there) = fs::metadata(rt, path) {
-        file.set_permissions(kept_permissions(&there.permissions()))?;
+    if let Some(kept) = kept_permissions(fs::metadata(rt, path)) {
+        file.set_permissions(kept)?;
     }
     file.write_all(contents)?;
     file.sync_all()?;
     fs::rename(rt, beside, path)
 }
 
-/// The permissions of a file that takes another's place: those to read, write and run.
-fn kept_permissions(there: &Permissions) -> Permissions
-    ensures { permissions_mode result ≡ bit_and (permissions_mode there.now) 0o777 }
+/// The permissions of a file that takes another's place: those to read, write and run. Of a file of
+/// which the system tells nothing there are none to keep.
+fn kept_permissions(there: io::Result<Metadata>) -> Option<Permissions>
+    ensures { option_map permissions_mode result
+        ≡ option_map (λ m. bit_and (metadata_mode m) 0o777) (result_ok there) }
 {
-    Permissions::from_mode(there.mode() & 0o777)
+    match there {
+        Ok(there) => Some(Permissions::from_mode(there.permissions().mode() & 0o777)),
+        Err(_) => None,
+    }
 }
 
 /// A new file in the folder of the path, and its path.
-fn create_beside<R: Files>(rt: &R, alloc: Global, path: &str) -> io::Result<(String, R::File)> {
+fn create_beside<R: Files>(rt: &R, alloc: Global, path: &str) -> io::Result<(String, R::File)>
+    ensures { IfOk result (λ made. IsSomeAnd (path_parent path.now)
+        (λ folder. StandsIn folder (string_bytes made.0))) }
+{
     let Some(folder) = folder_of(path) else {
         return Err(io::Error::from(ErrorKind::InvalidInput));
     };
