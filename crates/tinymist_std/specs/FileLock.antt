@@ -16,6 +16,12 @@ lock_file l = l.file
 abbrev pub lock_path : FileLock → List ℕ
 lock_path l = string_bytes l.path
 
+-- a lock was waited for; a file system without locks goes on, and another failure stays
+abbrev pub IsWaited : Result (Unit {0}) IoError → Result (Unit {0}) IoError → Type 0
+IsWaited (Ok u) answer = answer ≡ Ok tt
+IsWaited (Err e) answer = (error_kind e ≡ Unsupported → answer ≡ Ok tt)
+    × (error_kind e ≢ Unsupported → answer ≡ Err e)
+
 -- a lock is taken, or another holds it; a file system without locks goes on, and another failure stays
 abbrev pub IsTaken : Result (Unit {0}) TryLockError → Result Bool IoError → Type 0
 IsTaken (Ok u) answer = answer ≡ Ok true

@@ -2,8 +2,9 @@
 ghost use Rattle.std.specs.Prelude.{◌≡◌, ◌≢◌, ◌↔◌, true, Ok, IfOk, IfErr, IfSome, IsTrue, MatchResult, OnOk, OnErr, codes, string_bytes};
 ghost use Rattle.std.specs.Fs.{asks_write, new_options, with_create, with_read, with_write};
 ghost use Rattle.std.specs.IoError.{error_kind};
+ghost use Rattle.tinymist_std.specs.Context.{KeepsWant};
 ghost use Rattle.tinymist_std.specs.Error.{no_memory, plain};
-ghost use Rattle.tinymist_std.specs.FileLock.{IsTaken, lock_path};
+ghost use Rattle.tinymist_std.specs.FileLock.{IsTaken, IsWaited, lock_path};
 ghost use Rattle.tinymist_std.specs.Paths.{IsFileFault};
 ghost use Rattle.ty_model.specs.Paths as plain;
 
@@ -175,8 +176,8 @@ impl Filesystem {
         let path = self.place(call, path)?;
         let opened = open(rt, path.as_str(), access);
         let file = named(self.alloc(), call, path.as_str(), opened)?;
-        let answer = taken(access.lock(&file));
-        let _taken = lock_named(self.alloc(), call, path.as_str(), answer)?;
+        let answer = waited(access.lock(&file));
+        lock_named(self.alloc(), call, path.as_str(), answer)?;
         Ok(FileLock::new(file, path))
     }
 
@@ -242,13 +243,12 @@ impl Access {
     }
 
     /// Waits for the lock.
-    fn lock(self, file: &File) -> std::result::Result<(), TryLockError> {
-        let answer = if self.writes() {
+    fn lock(self, file: &File) -> io::Result<()> {
+        if self.writes() {
             file.lock()
         } else {
             file.lock_shared()
-        };
-        answer.map_err(TryLockError::Error)
+        }
     }
 
     /// The lock, unless another holds it.
@@ -261,6 +261,19 @@ impl Access {
     }
 }
 
+/// The answer of a lock that was waited for. A file system that has no locks goes on without one.
+fn waited(answer: io::Result<()>) -> io::Result<()>
+    ensures { IsWaited answer result }
+{
+    match answer {
+        Ok(()) => Ok(()),
+        Err(cause) => match cause.kind() {
+            ErrorKind::Unsupported => Ok(()),
+            _ => Err(cause),
+        },
+    }
+}
+
 /// Whether the lock was taken; it wasn't where another holds it. A file system that has no locks goes
 /// on without one.
 fn taken(answer: std::result::Result<(), TryLockError>) -> io::Result<bool>
@@ -269,10 +282,10 @@ fn taken(answer: std::result::Result<(), TryLockError>) -> io::Result<bool>
     match answer {
         Ok(()) => Ok(true),
         Err(TryLockError::WouldBlock) => Ok(false),
-        Err(TryLockError::Error(cause)) => match cause.kind() {
-            ErrorKind::Unsupported => Ok(true),
-            _ => Err(cause),
-        },
+        Err(TryLockError::Error(cause)) => {
+            waited(Err(cause))?;
+            Ok(true)
+        }
     }
 }
 
@@ -294,7 +307,9 @@ impl<D: Display> Display for NotLocked<'_, D> {
 
 /// The result of a lock, whose error names the call and the path, and says that the file was opened.
 fn lock_named<T>(alloc: Global, call: &'static str, path: &str, answer: io::Result<T>) -> Result<T>
-    ensures { MatchResult result (λ value. answer ≡ Ok value) (IsFileFault call.now path.now) }
+    ensures names { MatchResult result (λ value. answer ≡ Ok value) (IsFileFault call.now path.now) }
+    ensures memory { IfErr answer (λ cause. IfErr result
+        (λ e. KeepsWant (error_kind cause ≡ ErrorKind.OutOfMemory) e.kind)) }
 {
     match answer {
         Ok(value) => Ok(value),

@@ -5,7 +5,7 @@ ghost use Rattle.std.specs.Prelude.{◌≡◌, false, Some, Ok, IsOkAnd, IfOk, I
 ghost use Rattle.std.specs.Option.{option_copied};
 ghost use Rattle.std.specs.Path.{path_parent};
 ghost use Rattle.std.specs.Str.{IsUtf8};
-ghost use Rattle.tinymist_std.specs.Context.{IsRefusal, IsWantOfMemory, reason_alone};
+ghost use Rattle.tinymist_std.specs.Context.{IsRefusal, IsWantOfMemory, KeepsWant, reason_alone};
 ghost use Rattle.tinymist_std.specs.PathAncestors.{path_next, path_stop};
 ghost use Rattle.std.specs.IoError.{error_kind};
 ghost use Rattle.tinymist_std.specs.Error.{no_memory, plain};
@@ -125,7 +125,9 @@ pub(crate) fn named<T>(
     path: &str,
     answer: io::Result<T>,
 ) -> Result<T>
-    ensures { MatchResult result (λ value. answer ≡ Ok value) (IsFileFault call.now path.now) }
+    ensures names { MatchResult result (λ value. answer ≡ Ok value) (IsFileFault call.now path.now) }
+    ensures memory { IfErr answer (λ cause. IfErr result
+        (λ e. KeepsWant (error_kind cause ≡ ErrorKind.OutOfMemory) e.kind)) }
 {
     match answer {
         Ok(value) => Ok(value),
@@ -163,7 +165,9 @@ pub(crate) fn copied<T>(
     to: &str,
     answer: io::Result<T>,
 ) -> Result<T>
-    ensures { MatchResult result (λ value. answer ≡ Ok value) (IsCopyFault call.now from.now to.now) }
+    ensures names { MatchResult result (λ value. answer ≡ Ok value) (IsCopyFault call.now from.now to.now) }
+    ensures memory { IfErr answer (λ cause. IfErr result
+        (λ e. KeepsWant (error_kind cause ≡ ErrorKind.OutOfMemory) e.kind)) }
 {
     match answer {
         Ok(value) => Ok(value),
