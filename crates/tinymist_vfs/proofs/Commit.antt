@@ -17,12 +17,15 @@ use Rattle.ty_model.proofs.Commits.{rises_by, held_stays, held_rises, is_commit}
 use Rattle.ty_model.proofs.Standing.{held_stands}
 use Rattle.ty_model.proofs.Tests.{text_total, same_answer-Decides, same_option-Decides, same_stamp-Decides}
 use Rattle.tinymist_vfs.specs.Items.{item_of, items_of}
-use Rattle.tinymist_vfs.specs.Commits.{committed, put_held}
+use Rattle.tinymist_vfs.specs.Commits.{IsStaged, committed, put_held}
 use Rattle.tinymist_vfs.specs.declared.batch.item.Item.{Item}
 
 any_view : (items : List Item) → list_any (λ i. is_view (item_of i)) items ≡ changes_view (items_of items)
 any_view [] = refl
 any_view (i ∷ items) = ap (λ b. is_view (item_of i) || b) (any_view items)
+
+pub is_staged : (old shared new : plain.Layers) (stamp : plain.Stamp) (items : List change.Item) → shared ≡ old → new ≡ applied_all stamp shared items → IsStaged old items new
+is_staged old shared new stamp items same done = (stamp, done ∙ ap (λ (l : plain.Layers). applied_all stamp l items) same)
 
 module _ {R : Type 0} (k : Kept R) (items : List Item) (differs view : Bool) (c0 c : Changes) (l0 new : plain.Layers) (stamp : plain.Stamp) (mark : ℕ)
     (shared : l0 ≡ k.held.layers) (stamped : stamp ≡ next_stamp k.held.space k.held.revision) (done : new ≡ applied_all stamp l0 (items_of items)) (changes : c0 ≡ k.held.changes)

@@ -3,12 +3,13 @@ ghost use Rattle.std.specs.Prelude.{◌≡◌, [], ◌∷◌, ◌++◌, List, On
 ghost use Rattle.std.specs.List.{list_any};
 ghost use Rattle.ty_model.specs.Batch as change;
 ghost use Rattle.tinymist_vfs.specs.Items.{item_of, items_of};
+ghost use Rattle.tinymist_vfs.specs.ChangeSet.{removed_paths, inserted_files};
 
 mod change_set;
 pub(crate) mod item;
 pub(crate) mod revise;
 
-use crate::batch::item::Item;
+use crate::batch::item::{FileChangeSet, Item};
 use std::alloc::Global;
 use std::marker::Model;
 use ty_cells::FileSnapshot;
@@ -69,6 +70,16 @@ pub(crate) fn only_shadow(batch: &[Item]) -> Option<(&CleanPath, &FileSnapshot)>
 {
     match batch {
         [Item::MapPath(path, shadow)] => Some((path, shadow)),
+        _ => None,
+    }
+}
+
+/// The change set, where nothing else is in the batch.
+pub(crate) fn only_set(batch: &[Item]) -> Option<&FileChangeSet>
+    ensures { IfSome result (λ s. items_of batch.now ≡ change.ChangeSet (removed_paths s.now) (inserted_files s.now) ∷ []) }
+{
+    match batch {
+        [Item::ChangeSet(set)] => Some(set),
         _ => None,
     }
 }

@@ -16,6 +16,7 @@ pub(crate) mod same;
 pub(crate) mod stamp;
 pub(crate) mod store;
 pub(crate) mod told;
+mod told_marks;
 
 use crate::batch::item::{FileChangeSet, Item};
 use crate::layers::stamp::Stamp;

@@ -2,12 +2,16 @@
 ghost use Rattle.std.specs.Prelude.{◌≡◌, ◌+◌, ◌≤◌, [], ◌∷◌, ◌++◌, IfOk, OnErr, OnOk, map as list_map};
 ghost use Rattle.std.specs.FinMap as map;
 ghost use Rattle.ty_path.specs.Shared.{path_text};
+ghost use Rattle.ty_model.specs.Batch as change;
 ghost use Rattle.ty_model.specs.Touched.{IsMarked, item_ids, item_paths, touched_ids, touched_paths};
 ghost use Rattle.tinymist_vfs.specs.Items.{item_of, items_of, file_of};
+ghost use Rattle.tinymist_vfs.specs.ChangeSet.{removed_paths, inserted_files};
+ghost use Rattle.tinymist_vfs.specs.Commits.{IsStaged};
 ghost use Rattle.tinymist_vfs.specs.Maps.{Path};
 ghost use Rattle.ty_model.specs.Standing as plain;
 
 use crate::batch::item::{FileChangeSet, Item};
+use crate::batch::only_set;
 use crate::layers::Layers;
 use crate::layers::path_marks::PathMarks;
 use crate::layers::same::{either, same_id, same_path};
@@ -311,8 +315,7 @@ impl Changes {
         Ok(())
     }
 
-    /// Marks the keys that the batch made other, and tells whether there is one.
-    pub(crate) fn mark_all<L: Ledger>(
+    fn mark_items<L: Ledger>(
         &mut self,
         alloc: Global,
         old: &Layers,
@@ -329,5 +332,43 @@ impl Changes {
             differs = either(differs, more);
         }
         Ok(differs)
+    }
+
+    /// Marks the paths of a change set that is the whole batch. No shadow is another then, and a drop stamp only where
+    /// a path was removed, so of an inserted file what is told alone is compared.
+    fn mark_only_set<L: Ledger>(
+        &mut self,
+        alloc: Global,
+        old: &Layers,
+        new: &Layers,
+        set: &FileChangeSet,
+        revision: u64,
+        steps: &mut Steps<L>,
+    ) -> Result<bool, OutOfMemory>
+        requires { IsStaged old.now (change.ChangeSet (removed_paths set.now) (inserted_files set.now) ∷ []) new.now }
+        ensures { IfOk result (λ b. IsMarked old.now new.now revision self.old [] (removed_paths set.now ++ list_map (λ f. f.0) (inserted_files set.now)) b self.new) }
+    {
+        let removed = self.mark_paths(alloc, old, new, &set.removes, revision, steps)?;
+        let inserted = self.mark_told_files(alloc, old, new, &set.inserts, revision, steps)?;
+        Ok(either(removed, inserted))
+    }
+
+    /// Marks the keys that the batch made other, and tells whether there is one.
+    pub(crate) fn mark_all<L: Ledger>(
+        &mut self,
+        alloc: Global,
+        old: &Layers,
+        new: &Layers,
+        batch: &[Item],
+        revision: u64,
+        steps: &mut Steps<L>,
+    ) -> Result<bool, OutOfMemory>
+        requires { IsStaged old.now (items_of batch.now) new.now }
+        ensures { IfOk result (λ b. IsMarked old.now new.now revision self.old (touched_ids old.now (items_of batch.now)) (touched_paths old.now (items_of batch.now)) b self.new) }
+    {
+        match only_set(batch) {
+            Some(set) => self.mark_only_set(alloc, old, new, set, revision, steps),
+            None => self.mark_items(alloc, old, new, batch, revision, steps),
+        }
     }
 }

@@ -6,6 +6,7 @@ ghost use Rattle.ty_model.specs.Values.{same_answer};
 ghost use Rattle.ty_model.specs.Version.{same_stamp};
 ghost use Rattle.ty_model.specs.Standing.{same_option};
 ghost use Rattle.ty_model.specs.Touched.{same_id_at, same_path_at};
+ghost use Rattle.tinymist_vfs.specs.Commits.{told_before};
 
 use crate::layers::Layers;
 use crate::layers::stamp::Stamp;
@@ -47,6 +48,13 @@ pub(crate) fn same_path(old: &Layers, new: &Layers, path: &ImmutPath) -> bool
     same_stamps(at_path(&old.drops, path), at_path(&new.drops, path))
         && same_answers(at_path(&old.by_path, path), at_path(&new.by_path, path))
         && same_answers(at_path(&old.told, path), at_path(&new.told, path))
+}
+
+/// Whether a path has the same told file.
+pub(crate) fn same_told(old: &Layers, new: &Layers, path: &ImmutPath) -> bool
+    ensures { result ≡ same_path_at (told_before old.now new.now) new.now (path_text path.now) }
+{
+    same_answers(at_path(&old.told, path), at_path(&new.told, path))
 }
 
 // Both are known by now, so that no branch is left.

@@ -1,6 +1,10 @@
 use Rattle.std.proofs.Common.{sym, ◌∙◌, refl, arith}
-use Rattle.tinymist_vfs.proofs.Commit.{stays, rose, raised}
+use Rattle.tinymist_vfs.specs.Items.{items_of}
+use Rattle.tinymist_vfs.proofs.Commit.{is_staged, stays, rose, raised}
 use Rattle.tinymist_vfs.proofs.vfs.Vfs.commit_staged.Goals as goal
+
+pub mark_all-requires : goal.mark_all-requires
+mark_all-requires g c = is_staged _ _ _ c.next-stamp.result (items_of c.args.batch.now) c.in_ok-layers.ensures.same c.in_ok-apply_all.ensures
 
 pub returns-then-not-either-clause-ok : goal.returns-then-not-either-clause-ok
 returns-then-not-either-clause-ok g c =
