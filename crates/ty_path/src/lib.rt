@@ -1,4 +1,4 @@
-//! Paths as texts, values that can be shared, and out of memory.
+//! Paths as texts, values that can be shared, out of memory, and counts of steps.
 #![tactic(auto)]
 
 mod clean_path;
@@ -10,6 +10,7 @@ mod parts;
 mod pass;
 mod relative;
 mod share;
+mod steps;
 mod written;
 
 pub use clean_path::CleanPath;
@@ -21,3 +22,4 @@ pub use parts::{file_name, folder_and_name, is_absolute, parent};
 pub use pass::{are_names, is_clean};
 pub use relative::{diff, strip_prefix};
 pub use share::Share;
+pub use steps::Steps;

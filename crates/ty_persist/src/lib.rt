@@ -4,10 +4,9 @@
 mod entry;
 mod iter;
 mod map;
-mod steps;
 mod text_key;
 mod tree;
 
 pub use iter::Iter;
 pub use map::Map;
-pub use steps::Steps;
+pub use ty_path::Steps;

@@ -2,3 +2,4 @@ pub mod Texts
 pub mod Slashes
 pub mod Below
 pub mod Starts
+pub mod Repairs

@@ -67,7 +67,7 @@ some_start text offset = omega (arith, (goes_on text 0 offset (omega arith)).lon
 
 -- ---- in the table
 
-byte_at : (text : List ℕ) (i : ℕ) (d : LineStart) → i < length (table text) → get_or (table text) i d ≡ entry text (get_or (line_starts text) i 0)
+pub byte_at : (text : List ℕ) (i : ℕ) (d : LineStart) → i < length (table text) → get_or (table text) i d ≡ entry text (get_or (line_starts text) i 0)
 byte_at text i d within = get_or-map (entry text) (line_starts text) i 0 d (rw (length-map (line_starts text) (entry text)) at within)
 
 is_low : (text : List ℕ) (offset i : ℕ) (d : LineStart) → offset ≤ length text → i < length (starts_to text offset) → (get_or (table text) i d).byte ≤ offset
@@ -76,7 +76,7 @@ is_low text offset i d most below =
     let within : i < length (table text) = omega (arith, g.longer, length-map (line_starts text) (entry text)) in
     rw (byte_at text i d within, g.front i below) (low text offset i below)
 
-is_later : (text : List ℕ) (offset i : ℕ) (d : LineStart) → offset ≤ length text → length (starts_to text offset) ≤ i → i < length (table text) → offset < (get_or (table text) i d).byte
+pub is_later : (text : List ℕ) (offset i : ℕ) (d : LineStart) → offset ≤ length text → length (starts_to text offset) ≤ i → i < length (table text) → offset < (get_or (table text) i d).byte
 is_later text offset i d most least within =
     rw (byte_at text i d within) ((goes_on text offset (length text) most).later i least (rw (length-map (line_starts text) (entry text)) at within))
 

@@ -3,6 +3,7 @@
 #![tactic(auto)]
 
 mod bytes;
+mod edit;
 mod entry;
 mod error;
 mod id;
@@ -16,12 +17,13 @@ mod text;
 mod vpath;
 
 pub use bytes::Bytes;
+pub use edit::EditFault;
 pub use entry::{detached_entry, memory_main_entry};
 pub use error::{FileError, FileFault, FileResult, PackageError};
 pub use id::{FileId, Root};
 pub use lines::Lines;
 pub use place::Place;
-pub use source::{EditFault, Source};
+pub use source::Source;
 pub use spec::{PackageSpec, PackageVersion, VersionlessPackageSpec};
 pub use spec_key::SpecKey;
 pub use tags::{TagFault, Tags};

@@ -1,8 +1,11 @@
 //! The lines of a text, found by a table of their starts.
-ghost use Rattle.std.specs.Prelude.{◌≡◌, ◌<◌, ◌≤◌, length, IfOk, IfSome, slice_get, slice_index};
+ghost use Rattle.std.specs.Prelude.{◌≡◌, ◌<◌, ◌≤◌, length, map, take, IfOk, slice_get};
 ghost use Rattle.std.specs.Option.{option_map};
 ghost use Rattle.ty_syntax.specs.LineTable.{entry, table};
-ghost use Rattle.ty_syntax.specs.Lines.{ends_line, line_starts, line_at, line_of, line_range, place, units_before, units_by_line, start_at};
+ghost use Rattle.ty_syntax.specs.Lines.{ends_line, starts_to, line_starts, line_at, line_of, line_range, place, units_before, units_by_line, start_at};
+ghost use Rattle.ty_syntax.specs.Text.{units};
+
+mod repair;
 
 use crate::place::Place;
 use crate::text::{characters, is_place, units, units_of};
@@ -43,7 +46,7 @@ impl Lines {
     ghost use Rattle.std.specs.String.{string_bytes};
 
     /// The lines of this text.
-    pub(crate) fn new(alloc: Global, text: String) -> Result<Lines, OutOfMemory>
+    pub fn new(alloc: Global, text: String) -> Result<Lines, OutOfMemory>
         ensures { IfOk result (λ lines. lines ≡ string_bytes text) }
     {
         let starts = line_starts(alloc, text.as_str())?;
@@ -51,7 +54,7 @@ impl Lines {
     }
 
     /// The text.
-    pub(crate) fn text(&self) -> &str
+    pub fn text(&self) -> &str
         ensures { result.now ≡ self.now }
     {
         self.text.as_str()
@@ -173,12 +176,32 @@ impl Lines {
 fn line_starts(alloc: Global, text: &str) -> Result<Vec<LineStart>, OutOfMemory>
     ensures { IfOk result (λ starts. starts.items ≡ table text.now) }
 {
-    let bytes = text.as_bytes();
     let mut starts = Vec::new(alloc);
     starts.push(LineStart { byte: 0, utf16: 0 })?;
-    let mut utf16 = 0;
-    for (at, byte) in bytes.iter().enumerate() {
-        utf16 += units_of(*byte);
+    scan(&mut starts, text, 0, text.len(), 0)?;
+    Ok(starts)
+}
+
+/// Goes on with the starts of a text's lines from one offset to another. Of the first it is told, and of the second it
+/// tells, how many UTF-16 code units stand before it.
+fn scan(
+    starts: &mut Vec<LineStart>,
+    text: &str,
+    from: usize,
+    to: usize,
+    before: usize,
+) -> Result<usize, OutOfMemory>
+    requires order { from ≤ to }
+    requires within { to ≤ length text.now }
+    requires before { before ≡ units (take from text.now) }
+    requires starts { starts.old.items ≡ map (entry text.now) (starts_to text.now from) }
+    ensures starts { IfOk result (λ _. starts.new.items ≡ map (entry text.now) (starts_to text.now to)) }
+    ensures before { IfOk result (λ utf16. utf16 ≡ units (take to text.now)) }
+{
+    let bytes = text.as_bytes();
+    let mut utf16 = before;
+    for at in from..to {
+        utf16 += units_of(bytes[at]);
         if ends_line(bytes, at) {
             starts.push(LineStart {
                 byte: at + 1,
@@ -186,7 +209,7 @@ fn line_starts(alloc: Global, text: &str) -> Result<Vec<LineStart>, OutOfMemory>
             })?;
         }
     }
-    Ok(starts)
+    Ok(utf16)
 }
 
 /// Whether a line ends with the byte at this place.

@@ -4,35 +4,14 @@ ghost use Rattle.std.specs.String.{string_bytes};
 ghost use Rattle.std.specs.Arc.{arc_value};
 ghost use Rattle.ty_syntax.specs.Text.{is_span, spliced};
 
+use crate::edit::EditFault;
 use crate::id::FileId;
 use crate::lines::Lines;
-use crate::text::{is_span, spliced};
+use crate::text::is_span;
 use std::alloc::Global;
 use std::marker::Model;
 use std::sync::Arc;
-use thiserror::Error;
 use ty_path::{OutOfMemory, Share};
-
-/// Why a text wasn't edited.
-#[derive(Clone, Copy, Debug, PartialEq, Eq, Error)]
-pub enum EditFault {
-    /// The offsets are no span of the text.
-    #[error("no span of the text")]
-    Range,
-    /// No memory was left.
-    #[error("out of memory")]
-    OutOfMemory,
-}
-
-impl From<OutOfMemory> for EditFault {
-    ghost use Rattle.ty_syntax.specs.declared.source.EditFault.TheVariants.{OutOfMemory as no_memory};
-
-    ghost from_gives = { λ _ fault. fault ≡ no_memory };
-
-    fn from(_: OutOfMemory) -> Self {
-        EditFault::OutOfMemory
-    }
-}
 
 /// A file's id and text. Shares of a source have one text and one table of lines. Contracts see the id and the text.
 #[derive(Debug, Drop)]
@@ -108,12 +87,10 @@ impl Source {
         ensures err { OnErr result (self.new ≡ self.old) }
         ensures range { IsErrOf result EditFault.Range ↔ IsFalse (is_span self.old.text from to) }
     {
-        let text = self.lines.text();
-        if !is_span(text, from, to) {
+        if !is_span(self.lines.text(), from, to) {
             return Err(EditFault::Range);
         }
-        let text = spliced(alloc, text, from, to, with)?;
-        self.lines = lines_of(alloc, text)?;
+        self.lines = shared(alloc, self.lines.repaired(alloc, from, to, with)?)?;
         Ok(())
     }
 }
@@ -136,5 +113,11 @@ impl Share for Source {
 fn lines_of(alloc: Global, text: String) -> Result<Arc<Lines>, OutOfMemory>
     ensures { IfOk result (λ lines. arc_value lines ≡ string_bytes text) }
 {
-    Ok(Arc::new(alloc, Lines::new(alloc, text)?)?)
+    shared(alloc, Lines::new(alloc, text)?)
+}
+
+fn shared(alloc: Global, lines: Lines) -> Result<Arc<Lines>, OutOfMemory>
+    ensures { IfOk result (λ share. arc_value share ≡ lines) }
+{
+    Ok(Arc::new(alloc, lines)?)
 }

@@ -12,6 +12,8 @@ mod maps;
 #[cfg(test)]
 mod paths;
 #[cfg(test)]
+mod repairs;
+#[cfg(test)]
 mod sources;
 #[cfg(test)]
 mod virtual_paths;

@@ -270,6 +270,9 @@ fn edits_move_line_starts(rt: HostRuntime) -> Result<(), Fail> {
     assert_eq!(rt; source.lines().line_to_byte(1), Some(3));
     assert!(rt; source.edit(rt.alloc(), 1, 2, "").is_ok());
     assert_eq!(rt; source.lines().line_to_byte(1), Some(2));
+    assert!(rt; source.edit(rt.alloc(), 1, 1, "\r").is_ok());
+    assert_eq!(rt; source.lines().line_to_byte(1), Some(3));
+    assert_eq!(rt; source.lines().len_lines(), 2);
     Ok(())
 }
 

@@ -2,7 +2,7 @@ use Rattle.std.proofs.Common.{◌≡◌, ◌≤◌, ◌*◌, take, map}
 use Rattle.ty_syntax.specs.Text.{units}
 use Rattle.ty_syntax.specs.Lines.{starts_to}
 use Rattle.ty_syntax.specs.LineTable.{entry}
-use Rattle.ty_syntax.proofs.lines.line_starts.Given as goal
+use Rattle.ty_syntax.proofs.lines.scan.Given as goal
 
 abbrev pub invariant-loop-at : goal.invariant-loop-at
 invariant-loop-at l = record {
