@@ -3,3 +3,4 @@ pub mod Slashes
 pub mod Below
 pub mod Starts
 pub mod Repairs
+pub mod Commons

@@ -1,10 +1,8 @@
 -- The table of an edited text: before the edit and after it lines start where they did.
-use Rattle.std.proofs.Common.{◌≡◌, ℕ, zero, suc, ◌+◌, ◌-◌, ◌*◌, ◌<◌, ◌≤◌, Bool, true, false, cond, ◌==◌, ◌&&◌, ◌||◌, List, [], ◌∷◌, ◌++◌, length, map, get_or, take, drop, refl, sym, ◌∙◌, ap, subst, inl, inr, arith, append_assoc, leb-true, nat_le}
-use Rattle.std.proofs.lemmas.Bool.{cases_lt}
+use Rattle.std.proofs.Common.{◌≡◌, ℕ, zero, suc, ◌+◌, ◌-◌, ◌*◌, ◌<◌, ◌≤◌, Bool, true, false, cond, ◌==◌, ◌&&◌, ◌||◌, List, [], ◌∷◌, ◌++◌, length, map, get_or, take, drop, refl, sym, ◌∙◌, ap, subst, arith, append_assoc, leb-true, nat_le}
 use Rattle.std.proofs.lemmas.List.{append-nil, map-append, get_or_append_left, get_or-append-add, length-append, length-map, length-take, length-drop, get_or-drop, take-append-le, take_at, drop_at, take-take, length-take-le, take-append-drop}
-use Rattle.std.proofs.lemmas.List.Sums.{sum_by-append, sum_by-take-le}
 use Rattle.ty_syntax.specs.declared.lines.LineStart.{LineStart}
-use Rattle.ty_syntax.specs.Lines.{is_line_end, ends_line, starts_to, line_starts, line_at, start_at}
+use Rattle.ty_syntax.specs.Lines.{is_line_end, ends_line, starts_to, line_starts, start_at}
 use Rattle.ty_syntax.specs.LineTable.{entry, moved, table}
 use Rattle.ty_syntax.specs.Text.{begins, units, between, spliced, is_place, is_span}
 use Rattle.ty_syntax.proofs.Texts.{units_between, few_units}

@@ -3,6 +3,7 @@
 #![tactic(auto)]
 
 mod bytes;
+mod common;
 mod edit;
 mod entry;
 mod error;

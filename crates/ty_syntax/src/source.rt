@@ -4,6 +4,7 @@ ghost use Rattle.std.specs.String.{string_bytes};
 ghost use Rattle.std.specs.Arc.{arc_value};
 ghost use Rattle.ty_syntax.specs.Text.{is_span, spliced};
 
+use crate::common::{common_back, common_front};
 use crate::edit::EditFault;
 use crate::id::FileId;
 use crate::lines::Lines;
@@ -61,12 +62,19 @@ impl Source {
         &self.lines
     }
 
-    /// Puts another text in place of this one. A refusal changes nothing.
+    /// Puts another text in place of this one: what both begin and end with alike stays. A refusal changes nothing.
     pub fn replace(&mut self, alloc: Global, text: &str) -> Result<(), OutOfMemory>
         ensures ok { IfOk result (λ _. self.new ≡ record self.old { text = text.now }) }
         ensures err { OnErr result (self.new ≡ self.old) }
     {
-        self.lines = lines_of(alloc, String::from_str(alloc, text)?)?;
+        let old = self.lines.text();
+        let front = common_front(old, text);
+        let back = common_back(old, text, front);
+        let changed = &text[front..text.len() - back];
+        let lines = self
+            .lines
+            .repaired(alloc, front, old.len() - back, changed)?;
+        self.lines = shared(alloc, lines)?;
         Ok(())
     }
 

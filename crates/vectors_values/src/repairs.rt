@@ -6,7 +6,7 @@ use std::marker::Brand;
 use std::sync::ledger::{Blank, Ledger};
 use std::test::Fail;
 use ty_path::Steps;
-use ty_syntax::{EditFault, Lines};
+use ty_syntax::{EditFault, Lines, Source, detached_entry};
 
 /// What texts are put together from.
 static PIECES: [&str; 12] = [
@@ -114,5 +114,38 @@ fn made<L: Ledger>(alloc: Global, seed: u64, edits: u32, blank: Blank) -> Result
 fn ten_thousand_edits_beside_tables_made_anew(rt: HostRuntime) -> Result<(), Fail> {
     let made = made::<Brand>(rt.alloc(), 1, 40000, Blank::new(1))?;
     assert!(rt; made.is_some_and(|made| made >= 10000), "{made:?} edits");
+    Ok(())
+}
+
+/// Texts, and others that take their place: what both share ends in a character, in a line end, nowhere or at the end.
+static REPLACED: [(&str, &str); 10] = [
+    ("", "a\n"),
+    ("a\n", ""),
+    ("a\nb", "a\nb"),
+    ("é", "è"),
+    ("a\u{2028}b", "a\u{2029}b"),
+    ("日\n", "日\u{1D11E}日\n"),
+    ("é\u{A9}", "é\u{A9}\u{A9}"),
+    ("a\r", "a\r\n"),
+    ("a\r\nb", "a\nb"),
+    ("a\nb\n", "a\nc\nb\n"),
+];
+
+/// Whether a source of one text has the other once that is put in its place, with lines as a table that is made anew.
+fn replaces(alloc: Global, text: &str, other: &str) -> Result<bool, Fail> {
+    let text = String::from_str(alloc, text)?;
+    let mut source = Source::new(alloc, detached_entry(alloc)?, text)?;
+    source.replace(alloc, other)?;
+    Ok(source.text() == other && is_as_made_anew(alloc, source.lines())?)
+}
+
+#[test]
+fn replaced_texts(rt: HostRuntime) -> Result<(), Fail> {
+    for (text, other) in &REPLACED {
+        assert!(rt;
+            replaces(rt.alloc(), text, other)?,
+            "{other:?} for {text:?}"
+        );
+    }
     Ok(())
 }

@@ -1,7 +1,7 @@
-use Rattle.std.proofs.Common.{◌≡◌, ℕ, ◌+◌, ◌-◌, ◌<◌, ◌≤◌, List, length, get_or, take, drop, map, refl, ◌∙◌, arith}
+use Rattle.std.proofs.Common.{◌≡◌, ℕ, ◌+◌, ◌-◌, ◌<◌, ◌≤◌, List, length, get_or, take, drop, refl, ◌∙◌, arith}
 use Rattle.std.proofs.lemmas.List.{take_rest, take_all, get_or_default}
 use Rattle.ty_syntax.specs.declared.lines.LineStart.{LineStart}
-use Rattle.ty_syntax.specs.LineTable.{entry, table, moved}
+use Rattle.ty_syntax.specs.LineTable.{entry, table}
 use Rattle.ty_syntax.specs.Lines.{starts_to, line_at}
 use Rattle.ty_syntax.proofs.Starts.{some_start}
 use Rattle.ty_syntax.proofs.Repairs.{IsLater, later_start}

@@ -1,9 +1,9 @@
-use Rattle.std.proofs.Common.{◌≡◌, ◌+◌, ◌-◌, ◌*◌, ◌≤◌, length, take, drop, refl, ◌∙◌, sym, ap, arith}
+use Rattle.std.proofs.Common.{◌≡◌, ◌+◌, ◌-◌, ◌≤◌, length, take, refl, ap, arith}
 use Rattle.std.proofs.lemmas.List.{length-take}
 use Rattle.ty_syntax.specs.Text.{units, between}
-use Rattle.ty_syntax.specs.Lines.{start_at, starts_to}
-use Rattle.ty_syntax.specs.LineTable.{entry, table}
-use Rattle.ty_syntax.proofs.Texts.{units_fit, few_units, units_between}
+use Rattle.ty_syntax.specs.Lines.{starts_to}
+use Rattle.ty_syntax.specs.LineTable.{table}
+use Rattle.ty_syntax.proofs.Texts.{few_units, units_between}
 use Rattle.ty_syntax.proofs.Starts.{some_start}
 use Rattle.ty_syntax.proofs.Repairs.{span_parts, front_units, kept_entries, repaired_table, counted, by_line}
 use Rattle.ty_syntax.proofs.lines.Lines.repaired_starts.Goals as goal
