@@ -80,7 +80,9 @@ impl Lines {
         let replaced = units(&old[from..to]);
         // A line that ended before the edit may go on now, and the other way round: CR, and LF after it.
         let first = from.saturating_sub(1);
-        let mut starts = Vec::new(alloc);
+        // Most edits add few lines.
+        let room = self.starts.len().saturating_add(16);
+        let mut starts = Vec::with_capacity(alloc, room)?;
         starts.extend_from_slice(&self.starts[..=self.line_at(first)])?;
         let after = scan(
             &mut starts,

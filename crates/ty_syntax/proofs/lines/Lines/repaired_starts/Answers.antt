@@ -42,7 +42,7 @@ scan-requires-clause-starts c =
     let whole : c.deref.result.now ≡ table c.args.self.now = cc in
     let first : c.saturating_sub-first.result ≡ c.args.from - 1 = c.saturating_sub-first.ensures in
     let next : c.line_at.result + 1 ≡ length (starts_to c.args.self.now c.saturating_sub-first.result) = omega (arith, c.line_at.ensures.value, some_start c.args.self.now c.saturating_sub-first.result) in
-    let items : c.extend_from_slice.new.self.items ≡ take (c.line_at.result + 1) c.deref.result.now = rw c.new-starts.ensures.items at c.in_ok-extend_from_slice.ensures.items in
+    let items : c.extend_from_slice.new.self.items ≡ take (c.line_at.result + 1) c.deref.result.now = rw c.in_ok-starts.ensures.items at c.in_ok-extend_from_slice.ensures.items in
     rw (items, next, whole, c.requires.text, first) (kept_entries c.args.self.now c.args.with.now c.args.from c.args.to (omega (arith, span.0, span.1.0)))
 
 pub overflow_add-was : goal.overflow_add-was
