@@ -1,0 +1,8 @@
+use Rattle.std.proofs.Common.{refl, sym}
+use Rattle.std.specs.FinMap.{empty, get-empty}
+use Rattle.ty_model.specs.Values.{spec_cmp}
+use Rattle.tinymist_package.proofs.Listings.{no_root}
+use Rattle.vectors_packages.proofs.registries.NumberedPackageRegistry.resolve.Goals as goal
+
+pub returns : goal.returns
+returns c = no_root empty _ _ _ refl (sym (get-empty spec_cmp _)) c.in_ok-share.ensures
