@@ -8,6 +8,5 @@ pub mod Passes
 pub mod UnderWay
 pub mod Fronts
 pub mod Runs
-pub mod Options
 pub mod Told
 pub mod Detached

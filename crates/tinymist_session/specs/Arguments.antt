@@ -20,28 +20,33 @@ fits_32 n = if nat_lt n (2 ^ 32) then Some n else None
 abbrev pub limit_of : List ℕ → Option ℕ
 limit_of word = option_and_then fits_32 (number_of word)
 
--- an option is given at most once
-abbrev pub once : Option ℕ → ℕ → Option (Option ℕ)
-once None n = Some (Some n)
-once (Some m) n = None
+-- no option
+abbrev pub no_options : Options
+no_options = record { max_line = None; max_lines = None }
 
--- an option with its number, before others
-abbrev pub with_option : List ℕ → Options → ℕ → Option Options
-with_option name o n =
-    if bytes_eq name (codes "--max-line") then option_map (λ given. record o { max_line = given }) (once o.max_line n)
-    else if bytes_eq name (codes "--max-lines") then option_map (λ given. record o { max_lines = given }) (once o.max_lines n)
+-- the option of this name with its number
+abbrev pub option_of : List ℕ → List ℕ → Option Options
+option_of name number =
+    if bytes_eq name (codes "--max-line") then option_map (λ n. record { max_line = Some n; max_lines = None }) (limit_of number)
+    else if bytes_eq name (codes "--max-lines") then option_map (λ n. record { max_line = None; max_lines = Some n }) (limit_of number)
     else None
 
--- an option with its number before others, where both are good
-abbrev pub with_value : List ℕ → Option ℕ → Option Options → Option Options
-with_value name (Some n) (Some o) = with_option name o n
-with_value name value rest = None
+-- a limit of a line and one of lines, which two options give in either order
+abbrev pub one_of_each : Option ℕ → Option ℕ → Option ℕ → Option ℕ → Option Options
+one_of_each (Some line) None None (Some lines) = Some (record { max_line = Some line; max_lines = Some lines })
+one_of_each None (Some lines) (Some line) None = Some (record { max_line = Some line; max_lines = Some lines })
+one_of_each a b c d = None
 
--- the options, each followed by its number
+-- both options, where one is of each name
+abbrev pub both_of : Options → Options → Option Options
+both_of o p = one_of_each o.max_line o.max_lines p.max_line p.max_lines
+
+-- the options, in any order and each at most once
 abbrev pub options_of : List (List ℕ) → Option Options
-options_of [] = Some (record { max_line = None; max_lines = None })
-options_of (name ∷ []) = None
-options_of (name ∷ value ∷ words) = with_value name (limit_of value) (options_of words)
+options_of [] = Some no_options
+options_of (name ∷ number ∷ []) = option_of name number
+options_of (name ∷ number ∷ other ∷ its ∷ []) = option_and_then (λ o. option_and_then (both_of o) (option_of other its)) (option_of name number)
+options_of words = None
 
 -- the limits with these options, and the default where one isn't given
 abbrev pub limits_with : Options → Limits

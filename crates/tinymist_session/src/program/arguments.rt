@@ -30,28 +30,23 @@ pub(crate) struct Options {
 }
 
 impl Options {
-    /// These options after one more.
-    fn with(self, name: &str, n: u32) -> Option<Options>
-        ensures { option_map plain_options result ≡ plain.with_option name.now (plain_options self) n }
+    /// Both options, where one is of each name.
+    fn both(self, other: Options) -> Option<Options>
+        ensures { option_map plain_options result ≡ plain.both_of (plain_options self) (plain_options other) }
     {
-        if name == "--max-line" {
-            match self.max_line {
-                None => Some(Options {
-                    max_line: Some(n),
-                    max_lines: self.max_lines,
-                }),
-                Some(_) => None,
-            }
-        } else if name == "--max-lines" {
-            match self.max_lines {
-                None => Some(Options {
-                    max_line: self.max_line,
-                    max_lines: Some(n),
-                }),
-                Some(_) => None,
-            }
-        } else {
-            None
+        let given = (
+            self.max_line,
+            self.max_lines,
+            other.max_line,
+            other.max_lines,
+        );
+        match given {
+            (Some(max_line), None, None, Some(max_lines))
+            | (None, Some(max_lines), Some(max_line), None) => Some(Options {
+                max_line: Some(max_line),
+                max_lines: Some(max_lines),
+            }),
+            _ => None,
         }
     }
 
@@ -73,21 +68,39 @@ fn limit(word: &str) -> Option<u32>
     u32::try_from(number(word)?).ok()
 }
 
-/// The options in these arguments. There are two, so more than four arguments state none.
+/// The option of this name with its number.
+fn option_of(name: &str, number: &str) -> Option<Options>
+    ensures { option_map plain_options result ≡ plain.option_of name.now number.now }
+{
+    match name {
+        "--max-line" => Some(Options {
+            max_line: Some(limit(number)?),
+            max_lines: None,
+        }),
+        "--max-lines" => Some(Options {
+            max_line: None,
+            max_lines: Some(limit(number)?),
+        }),
+        _ => None,
+    }
+}
+
+/// The options in these arguments, in any order and each at most once.
 fn options_in(words: &[String]) -> Option<Options>
     ensures { option_map plain_options result ≡ plain.options_of (map string_bytes words.now) }
 {
-    if words.is_empty() {
-        return Some(Options {
+    match words {
+        [] => Some(Options {
             max_line: None,
             max_lines: None,
-        });
+        }),
+        [name, number] => option_of(name.as_str(), number.as_str()),
+        [name, number, other, its] => option_of(name.as_str(), number.as_str())?.both(option_of(
+            other.as_str(),
+            its.as_str(),
+        )?),
+        _ => None,
     }
-    if words.len() == 1 || words.len() > 4 {
-        return None;
-    }
-    let n = limit(&words[1])?;
-    options_in(&words[2..])?.with(&words[0], n)
 }
 
 /// The limits that the arguments of a session state, if they are such arguments: none, or `session` and then

@@ -6,7 +6,7 @@ use crate::disk::disk_of;
 use crate::session::both::{Run, sink};
 use std::alloc::Global;
 use std::test::Fail;
-use tinymist_session::{MemorySink, MemorySource, run_program};
+use tinymist_session::{LineSource, MemorySink, MemorySource, ReadStep, run_program};
 
 const MAP_AND_READ: &str = "map\t0\t/w/a.typ\t=6869\nsnapshot\nread\t1\t/w/a.typ";
 
@@ -96,6 +96,41 @@ fn replies_before_a_read_fault(rt: HostRuntime) -> Result<(), Fail> {
     assert_eq!(rt; run.status, 1);
     assert_eq!(rt; run.replies.bytes(), b"view\t1\nview\t2\n".as_slice());
     assert!(rt; run.replies.is_flushed());
+    Ok(())
+}
+
+/// How many bytes one more read gives.
+fn left_of(source: &mut MemorySource) -> usize {
+    let mut buffer = [0; 64];
+    match source.read(&mut buffer) {
+        ReadStep::Got(n) => n,
+        ReadStep::End | ReadStep::Failed => 0,
+    }
+}
+
+/// Runs the program over this input in pieces of nine bytes, and gives its status and what is left of the input.
+fn left_after(alloc: Global, input: &str) -> Result<(u8, usize), Fail> {
+    let sizes = vec![in alloc; 9, 9]?;
+    let mut source = source_of(alloc, input.as_bytes(), sizes)?;
+    let mut replies = sink(alloc);
+    let mut faults = sink(alloc);
+    let mut disk = disk_of(alloc, None)?;
+    let status = run_program(
+        alloc,
+        &[],
+        &mut source,
+        &mut replies,
+        &mut faults,
+        &mut disk,
+    );
+    Ok((status, left_of(&mut source)))
+}
+
+// Good input is read to its end, and a bad line stops the reading.
+#[test]
+fn how_far_the_input_is_read(rt: HostRuntime) -> Result<(), Fail> {
+    assert_eq!(rt; left_after(rt.alloc(), "snapshot\nsnapshot\n")?, (0, 0));
+    assert_eq!(rt; left_after(rt.alloc(), "nonsense\nsnapshot\n")?, (3, 9));
     Ok(())
 }
 
