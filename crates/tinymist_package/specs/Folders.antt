@@ -66,9 +66,9 @@ abbrev pub listed_in : List ℕ → List (List ℕ × Stored) → List (List ℕ
 listed_in folder [] = []
 listed_in folder (e ∷ es) = one_before (entry_in folder e) (listed_in folder es)
 
--- what a folder lists, by name
+-- what a folder lists, by name; a path that is no folder lists nothing
 abbrev pub list_in : Contents → List ℕ → List (List ℕ × Bool)
-list_in contents path = listed_in (clean path) (finmap.entries contents)
+list_in contents path = if is_folder (stored_at contents path) then listed_in (clean path) (finmap.entries contents) else []
 
 -- an entry as its name, and whether it is a folder
 abbrev pub plain_entry : FolderEntry → List ℕ × Bool

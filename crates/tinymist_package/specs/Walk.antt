@@ -25,7 +25,7 @@ abbrev pub bytes_of : PackFile → List ℕ
 bytes_of (Data bytes) = shared_bytes bytes
 bytes_of (Read bytes) = bytes.items
 
--- the files of a map, in the order of their insertion
+-- the files of a map, in its order
 abbrev pub files_of : List (String Global × Arc (Vec ℕ Global) Global) → List File
 files_of entries = map (λ e. (string_bytes e.0, shared_bytes e.1)) entries
 

@@ -16,7 +16,7 @@ use std::alloc::Global;
 pub enum FolderAnswer<T> {
     /// It is done, and this is its answer.
     Done(T),
-    /// It isn't done, and the count of faults rose.
+    /// It isn't done, and the count of faults rose, or stands at its last value.
     Failed,
     /// No memory was left.
     OutOfMemory,
@@ -31,7 +31,7 @@ pub struct FolderEntry {
     pub is_dir: bool,
 }
 
-/// Folders and files, with a count of the calls that failed. A path is taken by its cleaned form. Links aren't followed.
+/// Folders and files, with a count of the calls that failed. A path is taken by its cleaned form.
 pub trait Folders {
     /// What they hold, where they tell it, and how often a call has failed.
     ghost seen: { Self → FoldersSeen };

@@ -64,7 +64,7 @@ impl PackageIndexEntry {
 pub trait PackageSpecExt {
     ghost namespace_of: { Self → List ℕ };
 
-    /// Whether the package is one of those that Typst's registry offers.
+    /// Whether the namespace is that of Typst's registry, `preview`.
     fn is_preview(&self) -> bool
         ensures { IsTrue result ↔ (namespace_of self.now ≡ codes "preview") };
 }

@@ -12,5 +12,5 @@ pub use folders::{FolderAnswer, FolderEntry, Folders, MemoryFolders, RealFolders
 pub use index::{
     DEFAULT_PACKAGES_SUBDIR, DEFAULT_REGISTRY, PREVIEW_NS, PackageIndexEntry, PackageSpecExt,
 };
-pub use pack::{MapPack, PackEntries, PackFile, PackFs, TakesFiles, Unsupported};
+pub use pack::{FilterPack, MapPack, PackEntries, PackFile, PackFs, TakesFiles, Unsupported};
 pub use registry::{DummyRegistry, MemoryRegistry, PackageRegistry};

@@ -45,8 +45,8 @@ pub trait PackFs {
     ///
     /// # Errors
     ///
-    /// That of the taker; and of its own `Other` with the text `folder fault` where a folder failed, and with `too deep`
-    /// where folders stand in one another more than 64 deep.
+    /// That of the taker; out of memory; `Other` with the text `folder fault`, where the count of faults rose; or `Other`
+    /// with the text `too deep`. No pack of this crate gives the last two.
     fn hand_to<T: TakesFiles>(&mut self, alloc: Global, taker: &mut T) -> PackageResult<()>
         requires pack { can_walk self.old }
         requires taker { T.takes_any taker.old }

@@ -18,7 +18,7 @@ use std::alloc::Global;
 use ty_path::ImmutPath;
 use ty_syntax::PackageSpec;
 
-/// What knows where packages stand. Two registries that state one revision answer alike.
+/// What knows where packages stand. Two registries of one type that state one revision list the same roots and refusals.
 pub trait PackageRegistry: Drop {
     /// The packages that it lists, each with its root or a refusal.
     ghost listing: { Self → Resolver };
@@ -35,7 +35,7 @@ pub trait PackageRegistry: Drop {
         ensures revision { stated self.new ≡ stated self.old }
         ensures offers { offers self.new ≡ offers self.old };
 
-    /// A number that two registries share only where they answer alike, if it states one.
+    /// A number that two registries of its type share only where they list alike, if it states one.
     fn revision(&self) -> Option<u64>
         ensures { result ≡ stated self.now };
 

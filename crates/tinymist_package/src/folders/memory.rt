@@ -68,7 +68,7 @@ impl Model for MemoryFolders {
 }
 
 impl MemoryFolders {
-    /// Folders with nothing in them, of which no call fails.
+    /// The folders `/` and `.` with nothing in them, and no call that is listed to fail.
     pub fn new(alloc: Global) -> Result<MemoryFolders, OutOfMemory>
         ensures { IfOk result (λ f. f ≡ record { contents = no_files; fails = []; calls = 0; faults = 0 }) }
     {
@@ -161,7 +161,11 @@ impl Folders for MemoryFolders {
         }
     }
 
-    fn make(&mut self, alloc: Global, path: &str) -> FolderAnswer<()> {
+    fn make(&mut self, alloc: Global, path: &str) -> FolderAnswer<()>
+        ensures made { Leaves result (Some self.old.contents) (Some self.new.contents) (λ before after. Makes before (clean path.now) after) }
+        ensures cause { HasCause result self.old.faults self.new.faults }
+        ensures counted { (self.new.fails ≡ self.old.fails) × (self.new.calls ≡ counted self.old.calls) }
+    {
         if self.fails_now() {
             return self.failed();
         }
@@ -179,6 +183,7 @@ impl Folders for MemoryFolders {
         ensures written { Leaves result (Some self.old.contents) (Some self.new.contents) (λ before after. (can_write before (clean path.now) ≡ true) × (after ≡ finmap.insert before (clean path.now) (FileOf bytes.now))) }
         ensures cause { HasCause result self.old.faults self.new.faults }
         ensures fails { FailsWhere result (fails_next self.old || not (can_write self.old.contents (clean path.now))) }
+        ensures counted { (self.new.fails ≡ self.old.fails) × (self.new.calls ≡ counted self.old.calls) }
     {
         if self.fails_now() {
             return self.failed();
@@ -243,7 +248,11 @@ fn listed(
     ensures { IfOk result (λ entries. map plain_entry entries.items ≡ list_in (contents_of tree.now.entries) path.now) }
 {
     let folder = CleanPath::new(alloc, path)?;
-    entries_in(alloc, tree, &folder)
+    if is_folder_at(tree, &folder) {
+        entries_in(alloc, tree, &folder)
+    } else {
+        Ok(Vec::new(alloc))
+    }
 }
 
 /// What stands directly in a folder.

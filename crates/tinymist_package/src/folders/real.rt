@@ -12,8 +12,8 @@ use std::marker::Model;
 use std::rt::Files;
 use ty_path::{OutOfMemory, clean};
 
-/// The folders of the system. What they hold is not proved: this is a thin edge. A link is neither a folder nor a file:
-/// it isn't listed, and nothing is read or written through it. Contracts see the count of faults.
+/// The folders of the system. What they hold is not proved: this is a thin edge. A link is taken for neither a folder nor a
+/// file: it isn't listed, read or written to. Links above the path are followed. Contracts see the count of faults.
 #[derive(Drop)]
 pub struct RealFolders<R: Files + AllocGlobal + Drop> {
     rt: R,

@@ -12,7 +12,7 @@ use indexmap::IndexMap;
 use std::alloc::Global;
 use ty_path::{ImmutBytes, OutOfMemory, Share};
 
-/// Files in memory, in the order of their insertion.
+/// Files in memory, in the order of their map.
 #[derive(Drop)]
 pub struct MapPack {
     /// The bytes of each file, under its path.

@@ -16,7 +16,7 @@ use ty_path::{ImmutPath, OutOfMemory, Share};
 use ty_persist::Map;
 use ty_syntax::{PackageError, PackageSpec, SpecKey};
 
-/// A registry of packages that are kept in memory, each below `/internal-packages`. Contracts see what it lists.
+/// A registry of packages that are kept in memory. Contracts see what it lists.
 #[derive(Drop)]
 pub struct MemoryRegistry {
     packages: Map<SpecKey, ImmutPath>,
@@ -51,8 +51,8 @@ impl MemoryRegistry {
         self.packages.get(key)
     }
 
-    /// Lists a package, and answers its folder: `/internal-packages/<name>/<version>`. Out of memory leaves the registry
-    /// as it was.
+    /// Lists a package, and answers its folder: `/internal-packages/<name>/<version>`, with the name as it is written, and
+    /// whatever the namespace. Out of memory leaves the registry as it was.
     #[tactic(auto, using(crate::proofs::Listings::put_listed))]
     pub fn add_memory_package(
         &mut self,
